@@ -1,0 +1,3 @@
+-- The laws of the definitions in specs/, and the theorems about best plans.
+pub mod Cases
+pub mod Span

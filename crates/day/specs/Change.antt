@@ -1,0 +1,44 @@
+-- Windows made of others: mirrored, moved, side by side.
+use Prim.Native.Nat.{ℕ, _+_, _-_, _≤_, _<_}
+use mathlib.Core.Path.{_≡_}
+use mathlib.Core.Bool.{cond}
+use lib.Dec.{ltb}
+use lib.IntN.{ℤ, pos, _+ℤ_}
+use Rattle.day.specs.declared.Power.{Power}
+use Rattle.day.specs.Windows.{Windows}
+use Rattle.day.specs.Gap.{price}
+
+-- the mirrored day has the window (T - d, T - r) for each row (r, d)
+abbrev pub mirrored : ℕ → Windows → Windows
+mirrored slots w =
+    record { count = w .count; release = λ i. slots - w .deadline i; deadline = λ i. slots - w .release i }
+
+-- y is x moved by a signed number of slots; positive is later
+abbrev pub Shifts : ℤ → ℕ → ℕ → Type 0
+Shifts by x y = pos x +ℤ by ≡ pos y
+
+-- v is w with every window moved
+pub record Moved (by : ℤ) (w v : Windows) : Type 0 where
+  pub count : v .count ≡ w .count
+  pub release : (i : ℕ) → i < w .count → Shifts by (w .release i) (v .release i)
+  pub deadline : (i : ℕ) → i < w .count → Shifts by (w .deadline i) (v .deadline i)
+
+-- of two functions of a row, the first for the n rows of the first list and the second for the rows that follow
+abbrev pub beside : ℕ → (ℕ → ℕ) → (ℕ → ℕ) → ℕ → ℕ
+beside n f g i = cond (ltb i n) (f i) (g (i - n))
+
+-- the rows of w, then those of v
+abbrev pub joined : Windows → Windows → Windows
+joined w v =
+    record {
+      count = w .count + v .count;
+      release = beside (w .count) (w .release) (v .release);
+      deadline = beside (w .count) (w .deadline) (v .deadline);
+    }
+
+-- the first list ends by g, the second begins at h or later, and whatever lies between costs a wake
+pub record Apart (power : Power) (g h : ℕ) (w v : Windows) : Type 0 where
+  pub order : g ≤ h
+  pub first : (i : ℕ) → i < w .count → w .deadline i ≤ g
+  pub second : (i : ℕ) → i < v .count → h ≤ v .release i
+  pub between : (x : ℕ) → h - g ≤ x → price power x ≡ power .wake

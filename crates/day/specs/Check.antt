@@ -1,0 +1,45 @@
+-- The checks that entry points share, each in its place of their order.
+use Prim.Native.Nat.{ℕ, _≤_, _<_}
+use mathlib.Core.Path.{_≡_}
+use mathlib.Core.Logic.{_⊎_}
+use Rattle.day.specs.declared.Answer.{Answer}
+use Rattle.day.specs.declared.Power.{Power}
+use Rattle.day.specs.declared.Day.{Day}
+use Rattle.day.specs.Windows.{Windows}
+use Rattle.day.specs.Answer.{bad-slots, bad-wake, too-many-jobs, bad-row}
+use Rattle.day.specs.Refusal.{_then_, Refuses, RefusesRow}
+
+-- the limits of document 01
+abbrev pub most-slots : ℕ
+most-slots = 96
+
+abbrev pub most-wake : ℕ
+most-wake = 1000
+
+abbrev pub most-jobs : ℕ
+most-jobs = 40
+
+abbrev pub SlotsCheck : ℕ → ℕ → Answer → Type 0
+SlotsCheck limit slots = Refuses bad-slots ((slots ≡ 0) ⊎ (limit < slots))
+
+abbrev pub PowerCheck : Power → Answer → Type 0
+PowerCheck power = Refuses bad-wake (most-wake < power .wake)
+
+abbrev pub CountCheck : ℕ → Windows → Answer → Type 0
+CountCheck limit w = Refuses too-many-jobs (limit < w .count)
+
+-- a row with r ≥ d or d > T
+abbrev pub BadRow : ℕ → Windows → ℕ → Type 0
+BadRow slots w i = (w .deadline i ≤ w .release i) ⊎ (slots < w .deadline i)
+
+abbrev pub RowsCheck : ℕ → Windows → Answer → Type 0
+RowsCheck slots w = RefusesRow bad-row (w .count) (BadRow slots w)
+
+-- codes 1 to 4, with the limits of document 01
+abbrev pub ListCheck : Day → Windows → (Answer → Type 0) → Answer → Type 0
+ListCheck day w Next =
+    SlotsCheck most-slots (day .slots)
+    then PowerCheck (day .power)
+    then CountCheck most-jobs w
+    then RowsCheck (day .slots) w
+    then Next

@@ -1,0 +1,11 @@
+-- The words of document 01, as definitions. Start with Windows, Plan, Gap and Best; Answer and Refusal say how an entry point answers.
+pub mod Windows
+pub mod Plan
+pub mod Gap
+pub mod Number
+pub mod Best
+pub mod Change
+pub mod Answer
+pub mod Refusal
+pub mod Check
+pub mod Zero

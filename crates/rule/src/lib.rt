@@ -1,0 +1,1 @@
+// Why the cost table's rule is right: definitions and theorems alone, no code.
