@@ -4,6 +4,7 @@ pub mod Plan
 pub mod Gap
 pub mod Number
 pub mod Best
+pub mod Far
 pub mod Change
 pub mod Answer
 pub mod Refusal

@@ -1,17 +1,11 @@
--- The rule set up for a whole day. Points are counted from 1, so that 0 is the far point before the day and slots + 2 the one after it;
--- a slot's number grows by one with them.
+-- The rule set up for a whole day, between the two far points 0 and slots + 2; slots are counted from 1.
 use Prim.Native.Nat.{ℕ, _+_, _-_}
-use mathlib.Core.Bool.{Bool, true, cond, _||_}
+use mathlib.Core.Bool.{true, cond}
 use lib.Dec.{eqb}
 use Rattle.day.specs.declared.Day.{Day}
 use Rattle.day.specs.Windows.{Windows}
-use Rattle.day.specs.Gap.{price}
+use Rattle.day.specs.Far.{far-price}
 use Rattle.rule.specs.Span.{Problem, value}
-
--- a span with a far end costs a wake, even where no slot is empty
-unfoldable pub far-price : Day → ℕ → ℕ → ℕ
-far-price day s e =
-    cond (eqb s 0 || eqb e (day .slots + 2)) (day .power .wake) (price (day .power) (e - s))
 
 -- the jobs by number: `row k` is the row with number k
 abbrev pub problem : Day → Windows → (ℕ → ℕ) → ℕ → Problem
