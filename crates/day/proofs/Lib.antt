@@ -1,3 +1,5 @@
 -- The laws of the definitions in specs/, and the theorems about best plans.
 pub mod Cases
 pub mod Span
+pub mod Plan
+pub mod Gap

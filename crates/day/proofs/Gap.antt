@@ -1,0 +1,115 @@
+-- Laws of gaps and what they cost. Assumes nothing.
+use Prim.Native.Nat.{ℕ, zero, suc, _+_, _≤_, _<_, min}
+use mathlib.Core.Path.{_≡_, refl, sym, _∙_, ap}
+use mathlib.Core.Bool.{Bool, true, false, cond}
+use mathlib.Core.List.{List, [], _∷_}
+use native.Mathlib.Omega.{arith}
+use native.Mathlib.Nat.{min-zero, min-le-left, min-le-right}
+use Rattle.day.specs.declared.Power.{Power}
+use Rattle.day.specs.declared.Day.{Day}
+use Rattle.day.specs.Plan.{Plan, taken}
+use Rattle.day.specs.Gap.{price, ended, gaps-since, gaps, total, cost}
+use Rattle.day.proofs.Cases.{give, on}
+use Rattle.day.proofs.Plan.{taken-agree}
+
+-- what everything else uses of the price
+
+pub price-zero : (power : Power) → price power 0 ≡ 0
+unfolding price
+price-zero power = min-zero (power .wake)
+
+pub price-at-most-wake : (power : Power) (g : ℕ) → price power g ≤ power .wake
+unfolding price
+price-at-most-wake power g = min-le-left (power .wake) g
+
+pub price-at-most-length : (power : Power) (g : ℕ) → price power g ≤ g
+unfolding price
+price-at-most-length power g = min-le-right (power .wake) g
+
+-- the clauses of the definitions
+
+pub total-none : (f : ℕ → ℕ) → total f [] ≡ 0
+unfolding total
+total-none f = refl
+
+pub total-cons : (f : ℕ → ℕ) (x : ℕ) (xs : List ℕ) → total f (x ∷ xs) ≡ f x + total f xs
+unfolding total
+total-cons f x xs = refl
+
+-- a run with no slot is no gap, and its price is 0
+pub total-ended : (power : Power) (g : ℕ) (rest : List ℕ)
+    → total (price power) (ended g rest) ≡ price power g + total (price power) rest
+unfolding ended
+total-ended power zero rest = omega (arith, price-zero power)
+total-ended power (suc g) rest = total-cons (price power) (suc g) rest
+
+pub gaps-since-none : (full : ℕ → Bool) (g t : ℕ) → gaps-since full g t 0 ≡ []
+unfolding gaps-since
+gaps-since-none full g t = refl
+
+pub gaps-since-full : (full : ℕ → Bool) (g t m : ℕ) → full t ≡ true
+    → gaps-since full g t (suc m) ≡ ended g (gaps-since full 0 (suc t) m)
+unfolding gaps-since
+gaps-since-full full g t m e = rw e
+
+pub gaps-since-empty : (full : ℕ → Bool) (g t m : ℕ) → full t ≡ false
+    → gaps-since full g t (suc m) ≡ gaps-since full (suc g) (suc t) m
+unfolding gaps-since
+gaps-since-empty full g t m e = rw e
+
+pub gaps-none : (full : ℕ → Bool) (t : ℕ) → gaps full t 0 ≡ []
+unfolding gaps
+gaps-none full t = refl
+
+pub gaps-full : (full : ℕ → Bool) (t m : ℕ) → full t ≡ true → gaps full t (suc m) ≡ gaps-since full 0 (suc t) m
+unfolding gaps
+gaps-full full t m e = rw e
+
+pub gaps-empty : (full : ℕ → Bool) (t m : ℕ) → full t ≡ false → gaps full t (suc m) ≡ gaps full (suc t) m
+unfolding gaps
+gaps-empty full t m e = rw e
+
+-- only which slots are full matters
+
+gaps-since-same : (full other : ℕ → Bool) (m g t : ℕ) → ((u : ℕ) → u < t + m → full u ≡ other u)
+    → gaps-since full g t m ≡ gaps-since other g t m
+gaps-since-same full other zero g t f = gaps-since-none full g t ∙ sym (gaps-since-none other g t)
+gaps-since-same full other (suc m) g t f =
+    give (f t (omega arith))
+    (λ w.
+    on (full t)
+    (λ e.
+    gaps-since-full full g t m e
+    ∙ ap (ended g) (gaps-since-same full other m 0 (suc t) (λ u l. f u (omega arith)))
+    ∙ sym (gaps-since-full other g t m (sym w ∙ e)))
+    (λ e.
+    gaps-since-empty full g t m e
+    ∙ gaps-since-same full other m (suc g) (suc t) (λ u l. f u (omega arith))
+    ∙ sym (gaps-since-empty other g t m (sym w ∙ e))))
+
+pub gaps-same : (full other : ℕ → Bool) (m t : ℕ) → ((u : ℕ) → u < t + m → full u ≡ other u)
+    → gaps full t m ≡ gaps other t m
+gaps-same full other zero t f = gaps-none full t ∙ sym (gaps-none other t)
+gaps-same full other (suc m) t f =
+    give (f t (omega arith))
+    (λ w.
+    on (full t)
+    (λ e.
+    gaps-full full t m e
+    ∙ gaps-since-same full other m 0 (suc t) (λ u l. f u (omega arith))
+    ∙ sym (gaps-full other t m (sym w ∙ e)))
+    (λ e.
+    gaps-empty full t m e
+    ∙ gaps-same full other m (suc t) (λ u l. f u (omega arith))
+    ∙ sym (gaps-empty other t m (sym w ∙ e))))
+
+-- two plans at the same slots cost the same
+pub cost-same : (day : Day) (n m : ℕ) (p q : Plan) → ((t : ℕ) → t < day .slots → taken n p t ≡ taken m q t)
+    → cost day n p ≡ cost day m q
+unfolding cost
+cost-same day n m p q f =
+    ap (total (price (day .power))) (gaps-same (taken n p) (taken m q) (day .slots) 0 (λ u l. f u (omega arith)))
+
+-- only the first n starts matter
+pub cost-agree : (day : Day) (n : ℕ) (p q : Plan) → ((i : ℕ) → i < n → p i ≡ q i) → cost day n p ≡ cost day n q
+cost-agree day n p q f = cost-same day n n p q (λ t l. taken-agree n p q f t)
