@@ -3,3 +3,4 @@ pub mod Cases
 pub mod Span
 pub mod Plan
 pub mod Gap
+pub mod Far

@@ -15,16 +15,16 @@ unfoldable pub span : (ℕ → ℕ → ℕ) → (ℕ → Bool) → ℕ → ℕ �
 span price full s e = walk price full s s (e - s)
 
 module _ (price : ℕ → ℕ → ℕ) where
-  walk-zero : (full : ℕ → Bool) (a x : ℕ) → walk price full a x zero ≡ price a x
+  pub walk-zero : (full : ℕ → Bool) (a x : ℕ) → walk price full a x zero ≡ price a x
   unfolding walk
   walk-zero full a x = refl
 
-  walk-full : (full : ℕ → Bool) (a x m : ℕ) → full x ≡ true
+  pub walk-full : (full : ℕ → Bool) (a x m : ℕ) → full x ≡ true
       → walk price full a x (suc m) ≡ price a x + walk price full (suc x) (suc x) m
   unfolding walk
   walk-full full a x m e = rw e
 
-  walk-empty : (full : ℕ → Bool) (a x m : ℕ) → full x ≡ false → walk price full a x (suc m) ≡ walk price full a (suc x) m
+  pub walk-empty : (full : ℕ → Bool) (a x m : ℕ) → full x ≡ false → walk price full a x (suc m) ≡ walk price full a (suc x) m
   unfolding walk
   walk-empty full a x m e = rw e
 
