@@ -5,7 +5,7 @@ use mathlib.Core.Bool.{true, false}
 use mathlib.Core.Logic.{⊎-elim}
 use native.Mathlib.Omega.{arith}
 use lib.Dec.{eqb}
-use borrow.Author.Tests.{eqb-true, eq-eqb}
+use borrow.Author.Tests.{eqb-true, eq-eqb, ne-eqb}
 use Rattle.day.specs.Plan.{Plan, taken}
 use Rattle.day.proofs.Cases.{give, on, on-eq, not-both, bool-ext, or-cases, or-left, or-right}
 
@@ -47,3 +47,8 @@ taken-agree n p q f t =
     taken-same n n p q t t
     (λ w. record { row = w .row; below = w .below; at = sym (f (w .row) (w .below)) ∙ w .at })
     (λ w. record { row = w .row; below = w .below; at = f (w .row) (w .below) ∙ w .at })
+
+-- the last row takes no slot but its start
+pub taken-other : (n : ℕ) (p : Plan) (t : ℕ) → (p n ≡ t → ⊥) → taken (suc n) p t ≡ taken n p t
+unfolding taken
+taken-other n p t other = rw (ne-eqb (p n) t other)
