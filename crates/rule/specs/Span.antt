@@ -28,21 +28,29 @@ clear P (suc k) t = cond (eqb (P .release k) t) false (clear P k t)
 unfoldable pub may-split : Problem → ℕ → ℕ → Bool
 may-split P k t = P .allowed t && (leb (P .release k) t && (ltb t (P .deadline k) && clear P k t))
 
+-- the recursion, where job k splits a span from s only at a t that passes `may k s`
+unfoldable pub value-by : (ℕ → ℕ → ℕ → Bool) → Problem → ℕ → ℕ → ℕ → ℕ
+value-by may P zero s e = P .price s e
+value-by may P (suc k) s e =
+    cond (in-span P s e k)
+    (least (may k s) (λ t. value-by may P k s t + value-by may P k (suc t) e) (P .none) e)
+    (value-by may P k s e)
+
 -- the value of the span from s to e for the lowest k jobs
 unfoldable pub value : Problem → ℕ → ℕ → ℕ → ℕ
-value P zero s e = P .price s e
-value P (suc k) s e =
-    cond (in-span P s e k)
-    (least (may-split P k) (λ t. value P k s t + value P k (suc t) e) (P .none) e)
-    (value P k s e)
+value P = value-by (λ k s. may-split P k) P
 
 -- the sum of the two sides of a split at t
 unfoldable pub sides : Problem → ℕ → ℕ → ℕ → ℕ → ℕ
 sides P k s e t = value P k s t + value P k (suc t) e
 
+-- job k may split the span at t, and at no place better
+unfoldable pub best-split : Problem → ℕ → ℕ → ℕ → ℕ → Bool
+best-split P k s e t = may-split P k t && eqb (sides P k s e t) (value P (suc k) s e)
+
 -- where job k splits the span: the latest best t
 unfoldable pub split : Problem → ℕ → ℕ → ℕ → ℕ
-split P k s e = latest (λ t. may-split P k t && eqb (sides P k s e t) (value P (suc k) s e)) e
+split P k s e = latest (best-split P k s e) e
 
 -- the start of job i, one of the lowest k, in the plan read back of the span
 unfoldable pub read-back : Problem → ℕ → ℕ → ℕ → ℕ → ℕ
