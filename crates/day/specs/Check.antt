@@ -35,11 +35,22 @@ BadRow slots w i = (w .deadline i ≤ w .release i) ⊎ (slots < w .deadline i)
 abbrev pub RowsCheck : ℕ → Windows → Answer → Type 0
 RowsCheck slots w = RefusesRow bad-row (w .count) (BadRow slots w)
 
+-- codes 3 and 4
+abbrev pub JobsCheck : ℕ → ℕ → Windows → Answer → Type 0
+JobsCheck limit slots w = CountCheck limit w then RowsCheck slots w
+
 -- codes 1 to 4, with the limits of document 01
-abbrev pub ListCheck : Day → Windows → (Answer → Type 0) → Answer → Type 0
-ListCheck day w Next =
+abbrev pub ListCheck : Day → Windows → Answer → Type 0
+ListCheck day w =
     SlotsCheck most-slots (day .slots)
     then PowerCheck (day .power)
-    then CountCheck most-jobs w
-    then RowsCheck (day .slots) w
-    then Next
+    then JobsCheck most-jobs (day .slots) w
+
+-- what holds of a day and its rows where codes 1 to 4 refuse nothing
+pub record Accepted (day : Day) (w : Windows) : Type 0 where
+  pub some-slots : 0 < day .slots
+  pub slots-limit : day .slots ≤ most-slots
+  pub wake-limit : day .power .wake ≤ most-wake
+  pub jobs-limit : w .count ≤ most-jobs
+  pub window : (i : ℕ) → i < w .count → w .release i < w .deadline i
+  pub in-day : (i : ℕ) → i < w .count → w .deadline i ≤ day .slots

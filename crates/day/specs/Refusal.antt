@@ -1,14 +1,14 @@
 -- How an entry point answers: checks in order, each a relation that says with what it refuses; the first that refuses answers.
 use Prim.Native.Nat.{ℕ, _+_, _<_}
 use mathlib.Core.Path.{_≡_}
-use mathlib.Core.Logic.{_⊎_}
 use Rattle.day.specs.declared.Answer.{Answer}
 use Rattle.day.specs.Answer.{says, done}
 
 infixr 2 _then_
--- what a check answers, or, where it has nothing to refuse, what comes next answers
-abbrev pub _then_ : (Answer → Type 0) → (Answer → Type 0) → Answer → Type 0
-_then_ Check Next a = Check a ⊎ (((b : Answer) → Check b → ⊥) × Next a)
+-- what a check answers, or, where it has nothing to refuse, what comes next answers; checks in order are one check
+pub data _then_ (Check Next : Answer → Type 0) (a : Answer) : Type 0 where
+  stops : Check a → (Check then Next) a
+  goes-on : ((b : Answer) → Check b → ⊥) → Next a → (Check then Next) a
 
 -- nothing left to refuse
 abbrev pub Passed : Answer → Type 0
