@@ -4,3 +4,5 @@ pub mod Span
 pub mod Plan
 pub mod Gap
 pub mod Far
+pub mod Number
+pub mod Best

@@ -1,12 +1,13 @@
 -- Laws of plans: which slots are taken. Assumes nothing.
-use Prim.Native.Nat.{ℕ, zero, suc, _<_}
+use Prim.Native.Nat.{ℕ, zero, suc, _+_, _-_, _<_}
 use mathlib.Core.Path.{_≡_, refl, sym, _∙_}
 use mathlib.Core.Bool.{true, false}
 use mathlib.Core.Logic.{⊎-elim}
 use native.Mathlib.Omega.{arith}
 use lib.Dec.{eqb}
 use borrow.Author.Tests.{eqb-true, eq-eqb, ne-eqb}
-use Rattle.day.specs.Plan.{Plan, taken}
+use Rattle.day.specs.Windows.{Windows}
+use Rattle.day.specs.Plan.{Plan, Proper, NoPlan, taken}
 use Rattle.day.proofs.Cases.{give, on, on-eq, not-both, bool-ext, or-cases, or-left, or-right}
 
 -- the row that takes slot t, one of the first n
@@ -52,3 +53,80 @@ taken-agree n p q f t =
 pub taken-other : (n : ℕ) (p : Plan) (t : ℕ) → (p n ≡ t → ⊥) → taken (suc n) p t ≡ taken n p t
 unfolding taken
 taken-other n p t other = rw (ne-eqb (p n) t other)
+
+-- where x of one list stands for y of another if x + a = y + b: every window of v is one of w, moved
+pub record Offset (a b : ℕ) (w v : Windows) : Type 0 where
+  pub count : v .count ≡ w .count
+  pub release : (i : ℕ) → i < w .count → w .release i + a ≡ v .release i + b
+  pub deadline : (i : ℕ) → i < w .count → w .deadline i + a ≡ v .deadline i + b
+
+-- and each of n starts of q is one of p, moved as much
+abbrev pub OffsetPlan : ℕ → ℕ → ℕ → Plan → Plan → Type 0
+OffsetPlan a b n p q = (i : ℕ) → i < n → p i + a ≡ q i + b
+
+pub offset-turned : (a b : ℕ) (w v : Windows) → Offset a b w v → Offset b a v w
+offset-turned a b w v o =
+    record {
+      count = sym (o .count);
+      release = λ i l. sym (o .release i (omega arith));
+      deadline = λ i l. sym (o .deadline i (omega arith));
+    }
+
+pub offset-plan-turned : (a b : ℕ) (w v : Windows) (p q : Plan) → Offset a b w v → OffsetPlan a b (w .count) p q
+    → OffsetPlan b a (v .count) q p
+offset-plan-turned a b w v p q o f i l = sym (f i (omega arith))
+
+pub proper-offset : (a b : ℕ) (w v : Windows) (p q : Plan) → Offset a b w v → OffsetPlan a b (w .count) p q
+    → Proper w p → Proper v q
+proper-offset a b w v p q o f h =
+    record {
+      inside = λ i l.
+          let k : i < w .count = omega arith in
+          give (h .inside i k)
+          (λ m. (omega (arith, f i k, o .release i k, m .0), omega (arith, f i k, o .deadline i k, m .1)));
+      apart = λ i j l m e.
+          let k : i < w .count = omega arith in
+          let n : j < w .count = omega arith in
+          h .apart i j k n (omega (arith, f i k, f j n));
+    }
+
+-- a proper plan, moved as the windows are
+pub offset-proper : (a b : ℕ) (w v : Windows) (p : Plan) → Offset a b w v → Proper w p
+    → OffsetPlan a b (w .count) p (λ i. p i + a - b)
+offset-proper a b w v p o h i l = give (h .inside i l) (λ m. omega (arith, o .release i l, m .0))
+
+pub no-plan-offset : (a b : ℕ) (w v : Windows) → Offset a b w v → NoPlan v → NoPlan w
+no-plan-offset a b w v o none p h =
+    none (λ i. p i + a - b) (proper-offset a b w v p (λ i. p i + a - b) o (offset-proper a b w v p o h) h)
+
+-- windows that are the same for each of their rows
+pub record Alike (w v : Windows) : Type 0 where
+  pub count : v .count ≡ w .count
+  pub release : (i : ℕ) → i < w .count → w .release i ≡ v .release i
+  pub deadline : (i : ℕ) → i < w .count → w .deadline i ≡ v .deadline i
+
+pub alike-refl : (w : Windows) → Alike w w
+alike-refl w = record { count = refl; release = λ i l. refl; deadline = λ i l. refl }
+
+pub alike-turned : (w v : Windows) → Alike w v → Alike v w
+alike-turned w v a =
+    record {
+      count = sym (a .count);
+      release = λ i l. sym (a .release i (omega arith));
+      deadline = λ i l. sym (a .deadline i (omega arith));
+    }
+
+pub alike-offset : (w v : Windows) → Alike w v → Offset 0 0 w v
+alike-offset w v a =
+    record {
+      count = a .count;
+      release = λ i l. omega (arith, a .release i l);
+      deadline = λ i l. omega (arith, a .deadline i l);
+    }
+
+-- only the rows of the windows and the starts of those rows matter
+pub proper-cong : (w v : Windows) (p q : Plan) → Alike w v → ((i : ℕ) → i < w .count → p i ≡ q i) → Proper w p → Proper v q
+proper-cong w v p q a f = proper-offset 0 0 w v p q (alike-offset w v a) (λ i l. omega (arith, f i l))
+
+pub no-plan-cong : (w v : Windows) → Alike w v → NoPlan w → NoPlan v
+no-plan-cong w v a = no-plan-offset 0 0 v w (alike-offset v w (alike-turned w v a))
