@@ -4,7 +4,8 @@ use Prim.Native.Nat.{ℕ, zero, suc, _+_, _-_, _≤_, _<_}
 use mathlib.Core.Path.{_≡_, refl, sym, _∙_, ap}
 use mathlib.Core.Bool.{Bool, true, false, cond}
 use native.Mathlib.Omega.{arith}
-use Rattle.day.proofs.Cases.{on, give}
+use mathlib.Core.Logic.{⊎-elim}
+use Rattle.day.proofs.Cases.{on, give, find}
 
 -- over the m slots from x on, where the last job stood just before a and the next after them stands at x + m
 unfoldable pub walk : (ℕ → ℕ → ℕ) → (ℕ → Bool) → ℕ → ℕ → ℕ → ℕ
@@ -98,3 +99,27 @@ module _ (price : ℕ → ℕ → ℕ) where
       → span price full s e ≡ span price full s t + span price full (suc t) e
   unfolding span
   span-split full s t e h l w = walk-split full (t - s) (e - s) s s t (e - suc t) (omega arith) (omega arith) w
+
+  -- whatever satisfies the two laws up to a point is the price of the span
+  pub span-unique : (full : ℕ → Bool) (value : ℕ → ℕ → ℕ) (top : ℕ)
+      → ((s e : ℕ) → s ≤ e → e ≤ top → ((t : ℕ) → s ≤ t → t < e → full t ≡ false) → value s e ≡ price s e)
+      → ((s t e : ℕ) → s ≤ t → t < e → e ≤ top → full t ≡ true → value s e ≡ value s t + value (suc t) e)
+      → (m s e : ℕ) → s ≤ e → e ≤ s + m → e ≤ top → value s e ≡ span price full s e
+  span-unique full value top empty split zero s e l h u =
+      empty s e l u (λ t a b. absurd (omega arith)) ∙ sym (span-empty full s e l (λ t a b. absurd (omega arith)))
+  span-unique full value top empty split (suc m) s e l h u =
+      ⊎-elim
+      (λ w.
+      give (w .1)
+      (λ below.
+      omega (
+        arith,
+        split s (s + w .0) e (omega arith) (omega arith) u (w .2),
+        span-split full s (s + w .0) e (omega arith) (omega arith) (w .2),
+        span-unique full value top empty split m s (s + w .0) (omega arith) (omega arith) (omega arith),
+        span-unique full value top empty split m (suc (s + w .0)) e (omega arith) (omega arith) u,
+      )))
+      (λ none.
+      give (λ (t : ℕ) (a : s ≤ t) (b : t < e). ap full {x = t} {y = s + (t - s)} (omega arith) ∙ none (t - s) (omega arith))
+      (λ free. empty s e l u free ∙ sym (span-empty full s e l free)))
+      (find (λ i. full (s + i)) (e - s))
