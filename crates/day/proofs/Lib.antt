@@ -6,3 +6,4 @@ pub mod Gap
 pub mod Far
 pub mod Number
 pub mod Best
+pub mod Mirrored
