@@ -10,7 +10,7 @@ use Rattle.day.specs.declared.Day.{Day}
 use Rattle.day.specs.Plan.{Plan, taken}
 use Rattle.day.specs.Gap.{price, ended, gaps-since, gaps, total, cost}
 use Rattle.day.proofs.Cases.{give, on, on-eq}
-use Rattle.day.proofs.Plan.{taken-agree, taken-other}
+use Rattle.day.proofs.Plan.{taken-agree, taken-other, taken-false}
 
 -- what everything else uses of the price
 
@@ -223,3 +223,54 @@ cost-at-most-wakes day n p =
 -- no jobs: cost 0
 pub cost-none : (day : Day) (p : Plan) → cost day 0 p ≡ 0
 cost-none day p = omega (arith, cost-at-most-wakes day 0 p)
+
+-- an empty slot after the last job is free
+
+gaps-since-free : (full : ℕ → Bool) (m g t u : ℕ) → u ≡ t + m → full u ≡ false
+    → gaps-since full g t (suc m) ≡ gaps-since full g t m
+gaps-since-free full zero g t u q h =
+    let here : u ≡ t = omega arith in
+    gaps-since-empty full g t 0 (rw here at h) ∙ gaps-since-none full (suc g) (suc t) ∙ sym (gaps-since-none full g t)
+gaps-since-free full (suc m) g t u q h =
+    on (full t)
+    (λ e.
+    gaps-since-full full g t (suc m) e
+    ∙ ap (ended g) (gaps-since-free full m 0 (suc t) u (omega arith) h)
+    ∙ sym (gaps-since-full full g t m e))
+    (λ e.
+    gaps-since-empty full g t (suc m) e
+    ∙ gaps-since-free full m (suc g) (suc t) u (omega arith) h
+    ∙ sym (gaps-since-empty full g t m e))
+
+gaps-free : (full : ℕ → Bool) (m t u : ℕ) → u ≡ t + m → full u ≡ false → gaps full t (suc m) ≡ gaps full t m
+gaps-free full zero t u q h =
+    let here : u ≡ t = omega arith in
+    gaps-empty full t 0 (rw here at h) ∙ gaps-none full (suc t) ∙ sym (gaps-none full t)
+gaps-free full (suc m) t u q h =
+    on (full t)
+    (λ e.
+    gaps-full full t (suc m) e
+    ∙ gaps-since-free full m 0 (suc t) u (omega arith) h
+    ∙ sym (gaps-full full t m e))
+    (λ e.
+    gaps-empty full t (suc m) e
+    ∙ gaps-free full m (suc t) u (omega arith) h
+    ∙ sym (gaps-empty full t m e))
+
+-- a day with more slots at its end
+abbrev pub longer : Day → ℕ → Day
+longer day m = record { slots = day .slots + m; power = day .power }
+
+pub cost-longer : (day : Day) (n : ℕ) (p : Plan) → ((i : ℕ) → i < n → p i < day .slots) → (m : ℕ)
+    → cost (longer day m) n p ≡ cost day n p
+unfolding cost
+cost-longer day n p inside zero =
+    let same : day .slots + 0 ≡ day .slots = omega arith in
+    rw same
+cost-longer day n p inside (suc m) =
+    let more : day .slots + suc m ≡ suc (day .slots + m) = omega arith in
+    rw more
+    (ap (total (price (day .power)))
+    (gaps-free (taken n p) (day .slots + m) 0 (day .slots + m) (omega arith)
+    (taken-false n p (day .slots + m) (λ w. omega (arith, inside (w .row) (w .below)))))
+    ∙ cost-longer day n p inside m)

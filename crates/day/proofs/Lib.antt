@@ -7,3 +7,4 @@ pub mod Far
 pub mod Number
 pub mod Best
 pub mod Mirrored
+pub mod Moved
