@@ -1,5 +1,7 @@
 -- The laws of the definitions in specs/, and the theorems about best plans.
 pub mod Cases
+pub mod Refusal
+pub mod Check
 pub mod Span
 pub mod Plan
 pub mod Gap

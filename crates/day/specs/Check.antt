@@ -46,11 +46,15 @@ ListCheck day w =
     then PowerCheck (day .power)
     then JobsCheck most-jobs (day .slots) w
 
--- what holds of a day and its rows where codes 1 to 4 refuse nothing
+-- at most `limit` rows, each with r < d ≤ T
+pub record GoodRows (limit slots : ℕ) (w : Windows) : Type 0 where
+  pub count : w .count ≤ limit
+  pub window : (i : ℕ) → i < w .count → w .release i < w .deadline i
+  pub in-day : (i : ℕ) → i < w .count → w .deadline i ≤ slots
+
+-- a day and its rows within the limits of document 01: codes 1 to 4 refuse nothing
 pub record Accepted (day : Day) (w : Windows) : Type 0 where
   pub some-slots : 0 < day .slots
-  pub slots-limit : day .slots ≤ most-slots
-  pub wake-limit : day .power .wake ≤ most-wake
-  pub jobs-limit : w .count ≤ most-jobs
-  pub window : (i : ℕ) → i < w .count → w .release i < w .deadline i
-  pub in-day : (i : ℕ) → i < w .count → w .deadline i ≤ day .slots
+  pub slots : day .slots ≤ most-slots
+  pub wake : day .power .wake ≤ most-wake
+  pub rows : GoodRows most-jobs (day .slots) w

@@ -1,5 +1,5 @@
 -- How an entry point answers: checks in order, each a relation that says with what it refuses; the first that refuses answers.
-use Prim.Native.Nat.{ℕ, _+_, _<_}
+use Prim.Native.Nat.{ℕ, _+_, _<_, _≤_}
 use mathlib.Core.Path.{_≡_}
 use Rattle.day.specs.declared.Answer.{Answer}
 use Rattle.day.specs.Answer.{says, done}
@@ -23,6 +23,12 @@ pub record Refuses (code : ℕ) (Fault : Type 0) (a : Answer) : Type 0 where
 pub record First (n : ℕ) (Fault : ℕ → Type 0) (i : ℕ) : Type 0 where
   pub within : i < n
   pub fault : Fault i
+  pub lowest : (j : ℕ) → j < i → Fault j → ⊥
+
+-- i is the first of n rows at fault, or n where there is none
+pub record FirstOrEnd (n : ℕ) (Fault : ℕ → Type 0) (i : ℕ) : Type 0 where
+  pub within : i ≤ n
+  pub fault : i < n → Fault i
   pub lowest : (j : ℕ) → j < i → Fault j → ⊥
 
 -- a refusal that names the first row at fault, counted from 1

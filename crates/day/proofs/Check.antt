@@ -1,0 +1,101 @@
+-- Laws of the checks that entry points share: each is a check, and what holds of a list that they accept. Assumes nothing.
+use Prim.Native.Nat.{ℕ, _≤_, _<_}
+use mathlib.Core.Path.{_≡_}
+use mathlib.Core.List.{List}
+use mathlib.Core.Logic.{_⊎_, inl, inr, ⊎-elim}
+use native.Mathlib.Omega.{arith}
+use lib.ListN.{length, List·getD-eq-default}
+use Rattle.day.specs.declared.Answer.{Answer}
+use Rattle.day.specs.declared.Power.{Power}
+use Rattle.day.specs.declared.Day.{Day}
+use Rattle.day.specs.Windows.{Windows, windows}
+use Rattle.day.specs.Answer.{says}
+use Rattle.day.specs.Refusal.{_then_}
+use Rattle.day.specs.Check.{
+  most-slots,
+  most-wake,
+  SlotsCheck,
+  PowerCheck,
+  BadRow,
+  JobsCheck,
+  ListCheck,
+  GoodRows,
+  Accepted,
+}
+use Rattle.day.proofs.Cases.{give, on-le}
+use Rattle.day.proofs.Refusal.{
+  IsCheck,
+  refuses-is-check,
+  refuses-row-is-check,
+  then-is-check,
+  then-clear,
+  clear-first,
+  clear-next,
+  no-fault,
+  no-row-at-fault,
+}
+
+pub slots-is-check : {limit slots : ℕ} → IsCheck (SlotsCheck limit slots)
+slots-is-check = refuses-is-check (λ e. omega arith)
+
+pub power-is-check : {power : Power} → IsCheck (PowerCheck power)
+power-is-check = refuses-is-check (λ e. omega arith)
+
+pub jobs-is-check : {limit slots : ℕ} {w : Windows} → IsCheck (JobsCheck limit slots w)
+jobs-is-check = then-is-check (refuses-is-check (λ e. omega arith)) (refuses-row-is-check (λ e. omega arith))
+
+pub list-is-check : {day : Day} {w : Windows} → IsCheck (ListCheck day w)
+list-is-check = then-is-check slots-is-check (then-is-check power-is-check jobs-is-check)
+
+-- whether a row is bad is known
+bad-row-known : (slots : ℕ) (w : Windows) (i : ℕ) → BadRow slots w i ⊎ (BadRow slots w i → ⊥)
+bad-row-known slots w i =
+    on-le (w .deadline i) (w .release i) (λ h. inl (inl h))
+    (λ h. on-le (w .deadline i) slots (λ l. inr (⊎-elim (λ z. omega arith) (λ z. omega arith))) (λ l. inl (inr l)))
+
+-- good rows are not refused
+pub good-rows-clear : {limit slots : ℕ} {w : Windows} → GoodRows limit slots w → (b : Answer) → JobsCheck limit slots w b → ⊥
+good-rows-clear good =
+    then-clear (λ b r. omega (arith, r .fault))
+    (λ b r.
+    ⊎-elim (λ z. omega (arith, good .window _ (r .first .within))) (λ z. omega (arith, good .in-day _ (r .first .within)))
+    (r .first .fault))
+
+-- rows that are not refused are good
+pub clear-good-rows : {limit slots : ℕ} {w : Windows} → ((b : Answer) → JobsCheck limit slots w b → ⊥) → GoodRows limit slots w
+clear-good-rows {limit} {slots} {w} clear =
+    give (no-row-at-fault (bad-row-known slots w) (clear-next clear))
+    (λ none.
+    record {
+      count = on-le (w .count) limit (λ h. h) (λ h. absurd (no-fault (clear-first clear) h));
+      window = λ i l. on-le (w .deadline i) (w .release i) (λ h. absurd (none i l (inl h))) (λ h. h);
+      in-day = λ i l. on-le (w .deadline i) slots (λ h. h) (λ h. absurd (none i l (inr h)));
+    })
+
+-- an accepted list is not refused
+pub accepted-clear : {day : Day} {w : Windows} → Accepted day w → (b : Answer) → ListCheck day w b → ⊥
+accepted-clear accepted =
+    then-clear (λ b r. ⊎-elim (λ z. omega arith) (λ z. omega arith) (r .fault))
+    (then-clear (λ b r. omega (arith, r .fault)) (good-rows-clear (accepted .rows)))
+
+-- a list that is not refused is accepted
+pub clear-accepted : {day : Day} {w : Windows} → ((b : Answer) → ListCheck day w b → ⊥) → Accepted day w
+clear-accepted {day} clear =
+    give (no-fault (clear-first clear))
+    (λ slots-right.
+    record {
+      some-slots = on-le (day .slots) 0 (λ h. absurd (slots-right (inl (omega arith)))) (λ h. h);
+      slots = on-le (day .slots) most-slots (λ h. h) (λ h. absurd (slots-right (inr h)));
+      wake =
+          on-le (day .power .wake) most-wake (λ h. h) (λ h. absurd (no-fault (clear-first (clear-next clear)) h));
+      rows = clear-good-rows (clear-next (clear-next clear));
+    })
+
+-- the rows of an accepted list of numbers all have a deadline
+pub good-rows-deadlines : {limit slots : ℕ} (releases deadlines : List ℕ) → GoodRows limit slots (windows releases deadlines)
+    → length releases ≤ length deadlines
+good-rows-deadlines releases deadlines good =
+    on-le (length releases) (length deadlines) (λ h. h)
+    (λ h.
+    let past : length deadlines ≤ length deadlines = omega arith in
+    absurd (omega (arith, good .window (length deadlines) h, List·getD-eq-default deadlines 0 past)))

@@ -1,0 +1,133 @@
+-- Laws of checks in order: each answers once and never with `done`, so that what comes after a check is known from its answer.
+-- Assumes nothing.
+use Prim.Native.Nat.{ℕ, zero, suc, _+_, _<_}
+use mathlib.Core.Path.{_≡_, refl, sym, _∙_, ap}
+use mathlib.Core.Logic.{_⊎_, inl, inr, ⊎-elim}
+use native.Mathlib.Omega.{arith}
+use Rattle.day.specs.declared.Answer.{Answer}
+use Rattle.day.specs.Answer.{says, done}
+use Rattle.day.specs.Refusal.{_then_, stops, goes-on, Passed, Refuses, First, RefusesRow, FirstPair, RefusesPair}
+use Rattle.day.proofs.Cases.{on-le, on-eq}
+
+pub first-unique : {n : ℕ} {Fault : ℕ → Type 0} (i j : ℕ) → First n Fault i → First n Fault j → i ≡ j
+first-unique i j p q =
+    on-le i j (λ h. on-le j i (λ l. omega arith) (λ l. absurd (q .lowest i l (p .fault))))
+    (λ h. absurd (p .lowest j h (q .fault)))
+
+pub first-pair-unique : {n : ℕ} {Fault : ℕ → ℕ → Type 0} (i j k l : ℕ) → FirstPair n Fault i j → FirstPair n Fault k l
+    → (i ≡ k) × (j ≡ l)
+first-pair-unique {n} {Fault} i j k l p q =
+    let same-row : i ≡ k =
+    on-le i k (λ h. on-le k i (λ u. omega arith) (λ u. absurd (q .lowest i j u (p .order) (p .within) (p .fault))))
+    (λ h. absurd (p .lowest k l h (q .order) (q .within) (q .fault)))
+    in
+    let q-here : FirstPair n Fault i l = rw same-row q in (
+      same-row,
+      on-le j l
+          (λ h. on-le l j (λ u. omega arith) (λ u. absurd (q-here .partner j (p .order) u (p .fault))))
+          (λ h. absurd (p .partner l (q-here .order) h (q-here .fault))),
+    )
+
+-- where it is known of each row whether it is at fault, there is a first such row or none
+pub first-or-none : {Fault : ℕ → Type 0} → ((i : ℕ) → Fault i ⊎ (Fault i → ⊥)) → (n : ℕ)
+    → ((i : ℕ) × First n Fault i) ⊎ ((i : ℕ) → i < n → Fault i → ⊥)
+first-or-none known zero = inr (λ i h. absurd (omega arith))
+first-or-none known (suc n) =
+    ⊎-elim
+    (λ f. inl (f .0, record { within = omega (arith, f .1 .within); fault = f .1 .fault; lowest = f .1 .lowest }))
+    (λ none.
+    ⊎-elim (λ f. inl (n, record { within = omega arith; fault = f; lowest = none }))
+    (λ clear. inr (λ i h. on-eq i n (λ e. rw e clear) (λ e. none i (omega arith))))
+    (known n))
+    (first-or-none known n)
+
+-- a fault would be refused
+pub no-fault : {code : ℕ} {Fault : Type 0} → ((b : Answer) → Refuses code Fault b → ⊥) → Fault → ⊥
+no-fault {code} clear f = clear (says code 0 0) (record { fault = f; says = refl })
+
+-- a row at fault would be refused
+pub no-row-at-fault : {code n : ℕ} {Fault : ℕ → Type 0} → ((i : ℕ) → Fault i ⊎ (Fault i → ⊥))
+    → ((b : Answer) → RefusesRow code n Fault b → ⊥) → (i : ℕ) → i < n → Fault i → ⊥
+no-row-at-fault {code} {n} known clear =
+    ⊎-elim (λ f. absurd (clear (says code (f .0 + 1) 0) (record { row = f .0; first = f .1; says = refl }))) (λ none. none)
+    (first-or-none known n)
+
+-- a relation that only refuses, and with one answer
+pub record IsCheck (Check : Answer → Type 0) : Type 0 where
+  pub one : (a b : Answer) → Check a → Check b → a ≡ b
+  pub not-done : (a : Answer) → Check a → a .code ≡ done → ⊥
+
+pub refuses-is-check : {code : ℕ} {Fault : Type 0} → (code ≡ done → ⊥) → IsCheck (Refuses code Fault)
+refuses-is-check h = record { one = λ a b p q. p .says ∙ sym (q .says); not-done = λ a p e. h (rw (p .says) at e) }
+
+pub refuses-row-is-check : {code n : ℕ} {Fault : ℕ → Type 0} → (code ≡ done → ⊥) → IsCheck (RefusesRow code n Fault)
+refuses-row-is-check {code} h =
+    record {
+      one = λ a b p q. p .says ∙ ap (λ (i : ℕ). says code (i + 1) 0) (first-unique _ _ (p .first) (q .first)) ∙ sym (q .says);
+      not-done = λ a p e. h (rw (p .says) at e);
+    }
+
+pub refuses-pair-is-check : {code n : ℕ} {Fault : ℕ → ℕ → Type 0} → (code ≡ done → ⊥) → IsCheck (RefusesPair code n Fault)
+refuses-pair-is-check h =
+    record {
+      one = λ a b p q.
+          let same : (p .row ≡ q .row) × (p .partner ≡ q .partner) = first-pair-unique _ _ _ _ (p .first) (q .first) in
+          p .says ∙ rw (same .0, same .1) (sym (q .says));
+      not-done = λ a p e. h (rw (p .says) at e);
+    }
+
+module _ {Check : Answer → Type 0} where
+  -- two outcomes agree where what comes next agrees
+  pub then-unique : {Next Other : Answer → Type 0} → IsCheck Check → ((a b : Answer) → Next a → Other b → a ≡ b)
+      → (a b : Answer) → (Check then Next) a → (Check then Other) b → a ≡ b
+  then-unique k f a b (stops p) (stops q) = k .one a b p q
+  then-unique k f a b (stops p) (goes-on n q) = absurd (n a p)
+  then-unique k f a b (goes-on n p) (stops q) = absurd (n b q)
+  then-unique k f a b (goes-on n p) (goes-on m q) = f a b p q
+
+  -- the answer of a check that refused is the answer of the whole
+  pub then-refused : {Next : Answer → Type 0} (a : Answer) → (Check then Passed) a → (a .code ≡ done → ⊥) → (Check then Next) a
+  then-refused a (stops p) h = stops p
+  then-refused a (goes-on n p) h = absurd (h (ap (λ (x : Answer). x .code) p))
+
+  -- after a check that passed, what comes next answers
+  pub then-passed : {Next : Answer → Type 0} → IsCheck Check → (a b : Answer) → (Check then Passed) a → a .code ≡ done → Next b
+      → (Check then Next) b
+  then-passed k a b (stops p) e q = absurd (k .not-done a p e)
+  then-passed k a b (goes-on n p) e q = goes-on n q
+
+  -- a check that passed had nothing to refuse
+  pub passed-clear : IsCheck Check → (a : Answer) → (Check then Passed) a → a .code ≡ done → (b : Answer) → Check b → ⊥
+  passed-clear k a (stops p) e = absurd (k .not-done a p e)
+  passed-clear k a (goes-on n p) e = n
+
+  -- past a check that has nothing to refuse
+  pub then-next : {Next : Answer → Type 0} → ((b : Answer) → Check b → ⊥) → (a : Answer) → (Check then Next) a → Next a
+  then-next clear a (stops p) = absurd (clear a p)
+  then-next clear a (goes-on n p) = p
+
+  pub then-is-check : {Next : Answer → Type 0} → IsCheck Check → IsCheck Next → IsCheck (Check then Next)
+  then-is-check {Next} k l =
+      record { one = then-unique k (l .one); not-done = not-done-of }
+    where
+      not-done-of : (a : Answer) → (Check then Next) a → a .code ≡ done → ⊥
+      not-done-of a (stops p) e = k .not-done a p e
+      not-done-of a (goes-on n p) e = l .not-done a p e
+
+  -- two checks that have nothing to refuse have nothing together
+  pub then-clear : {Next : Answer → Type 0} → ((b : Answer) → Check b → ⊥) → ((b : Answer) → Next b → ⊥) → (b : Answer)
+      → (Check then Next) b → ⊥
+  then-clear n m b (stops p) = n b p
+  then-clear n m b (goes-on _ p) = m b p
+
+  pub clear-first : {Next : Answer → Type 0} → ((b : Answer) → (Check then Next) b → ⊥) → (b : Answer) → Check b → ⊥
+  clear-first clear b p = clear b (stops p)
+
+  pub clear-next : {Next : Answer → Type 0} → ((b : Answer) → (Check then Next) b → ⊥) → (b : Answer) → Next b → ⊥
+  clear-next clear b p = clear b (goes-on (clear-first clear) p)
+
+  -- a check and the next, taken together, are one check before the rest
+  pub then-group : {Next Rest : Answer → Type 0} (a : Answer) → (Check then Next then Rest) a → ((Check then Next) then Rest) a
+  then-group a (stops p) = stops (stops p)
+  then-group a (goes-on n (stops p)) = stops (goes-on n p)
+  then-group a (goes-on n (goes-on m p)) = goes-on (then-clear n m) p
