@@ -10,3 +10,5 @@ pub mod Number
 pub mod Best
 pub mod Mirrored
 pub mod Moved
+pub mod Beside
+pub mod BesideCost

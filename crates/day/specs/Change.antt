@@ -1,8 +1,8 @@
 -- Windows made of others: mirrored, moved, side by side.
 use Prim.Native.Nat.{ℕ, _+_, _-_, _≤_, _<_}
 use mathlib.Core.Path.{_≡_}
-use mathlib.Core.Bool.{cond}
-use lib.Dec.{ltb}
+use mathlib.Core.Bool.{cond, _||_}
+use lib.Dec.{eqb, ltb}
 use lib.IntN.{ℤ, pos, _+ℤ_}
 use Rattle.day.specs.declared.Power.{Power}
 use Rattle.day.specs.Windows.{Windows}
@@ -27,6 +27,10 @@ pub record Moved (by : ℤ) (w v : Windows) : Type 0 where
 abbrev pub beside : ℕ → (ℕ → ℕ) → (ℕ → ℕ) → ℕ → ℕ
 beside n f g i = cond (ltb i n) (f i) (g (i - n))
 
+-- what a function of a row gives for the rows that follow the first n
+abbrev pub after : ℕ → (ℕ → ℕ) → ℕ → ℕ
+after n f i = f (n + i)
+
 -- the rows of w, then those of v
 abbrev pub joined : Windows → Windows → Windows
 joined w v =
@@ -42,3 +46,7 @@ pub record Apart (power : Power) (g h : ℕ) (w v : Windows) : Type 0 where
   pub first : (i : ℕ) → i < w .count → w .deadline i ≤ g
   pub second : (i : ℕ) → i < v .count → h ≤ v .release i
   pub between : (x : ℕ) → h - g ≤ x → price power x ≡ power .wake
+
+-- what joining adds to the costs of two lists: a wake for what lies between, and nothing where a list is empty
+abbrev pub joining : Power → Windows → Windows → ℕ
+joining power w v = cond (eqb (w .count) 0 || eqb (v .count) 0) 0 (power .wake)
