@@ -1,142 +1,158 @@
--- Two lists side by side: proper plans and lateness of the joined list, from those of its parts and back. Assumes nothing.
-use Prim.Native.Nat.{ℕ, _+_, _-_, _≤_, _<_}
-use mathlib.Core.Path.{_≡_, refl, sym, _∙_, ap}
-use mathlib.Core.Logic.{_⊎_, inl, inr, ⊎-elim}
+-- Side by side: for two lists with a wake between them, the best plan of the joined list is the best plans of the two, side by side,
+-- and back. Assumes nothing.
+use Prim.Native.Nat.{ℕ, _+_, _≤_, _<_}
+use mathlib.Core.Path.{_≡_, sym}
 use native.Mathlib.Omega.{arith}
-use borrow.Author.Tests.{lt-ltb, le-ltb}
+use native.Mathlib.Nat.{min-eq-left}
 use Rattle.day.specs.declared.Power.{Power}
+use Rattle.day.specs.declared.Day.{Day}
 use Rattle.day.specs.Windows.{Windows}
-use Rattle.day.specs.Plan.{Plan, MayStart, Proper, NoPlan}
-use Rattle.day.specs.Number.{Lower}
-use Rattle.day.specs.Best.{AsLate, AsLate.same, AsLate.later}
-use Rattle.day.specs.Change.{beside, after, joined, Apart}
-use Rattle.day.proofs.Cases.{on-le}
+use Rattle.day.specs.Plan.{Plan, Proper, NoPlan}
+use Rattle.day.specs.Gap.{price, cost}
+use Rattle.day.specs.Best.{AsLate, Best}
+use Rattle.day.specs.Change.{beside, after, joined, joining, Apart}
+use Rattle.day.proofs.Cases.{give}
+use Rattle.day.proofs.Plan.{alike-refl, proper-cong}
+use Rattle.day.proofs.Gap.{cost-agree}
+use Rattle.day.proofs.Best.{best-cong}
+use Rattle.day.proofs.Joined.{beside-first, beside-after, first-proper, second-proper, joined-proper, first-as-late, second-as-late, joined-as-late}
+use Rattle.day.proofs.JoinedCost.{joined-cost}
 
-pub beside-first : (n : ℕ) (f g : ℕ → ℕ) (i : ℕ) → i < n → beside n f g i ≡ f i
-beside-first n f g i h = rw (lt-ltb i n h)
+price-long : (power : Power) (x : ℕ) → power .wake ≤ x → price power x ≡ power .wake
+unfolding price
+price-long power x l = min-eq-left l
 
-pub beside-after : (n : ℕ) (f g : ℕ → ℕ) (i : ℕ) → beside n f g (n + i) ≡ g i
-beside-after n f g i = rw (le-ltb (n + i) n (omega arith)) (ap g (omega arith))
-
--- a row of the joined list is a row of the first, or one of the second after the n of the first
-pub on-row : (C : ℕ → Type 0) (n m i : ℕ) → i < n + m → ((j : ℕ) → j < n → C j) → ((k : ℕ) → k < m → C (n + k)) → C i
-on-row C n m i l first second =
-    on-le n i (λ h. let e : n + (i - n) ≡ i = omega arith in rw e at (second (i - n) (omega arith))) (λ h. first i h)
+-- where the first list ends by g and the second begins at g + L or later, they are apart
+pub apart-by-wake : (power : Power) (g : ℕ) (w v : Windows)
+    → ((i : ℕ) → i < w .count → w .deadline i ≤ g)
+    → ((k : ℕ) → k < v .count → g + power .wake ≤ v .release k)
+    → Apart power g (g + power .wake) w v
+apart-by-wake power g w v first second =
+    record { order = omega arith; first = first; second = second; between = λ x l. price-long power x (omega arith) }
 
 module _ (w v : Windows) where
-  starts-first : (i t : ℕ) → i < w .count → MayStart (joined w v) i t ≡ MayStart w i t
-  starts-first i t l =
-      rw (beside-first (w .count) (w .release) (v .release) i l, beside-first (w .count) (w .deadline) (v .deadline) i l)
+  -- a list without a plan joins to none
 
-  starts-after : (i t : ℕ) → MayStart (joined w v) (w .count + i) t ≡ MayStart v i t
-  starts-after i t =
-      rw (beside-after (w .count) (w .release) (v .release) i, beside-after (w .count) (w .deadline) (v .deadline) i)
+  pub first-no-plan : NoPlan w → NoPlan (joined w v)
+  first-no-plan none r P = none r (first-proper w v r P)
 
-  pub first-proper : (r : Plan) → Proper (joined w v) r → Proper w r
-  first-proper r P =
-      record {
-        inside = λ i l. rw (starts-first i (r i) l) at (P .inside i (omega arith));
-        apart = λ i j l m e. P .apart i j (omega arith) (omega arith) e;
-      }
-
-  pub second-proper : (r : Plan) → Proper (joined w v) r → Proper v (after (w .count) r)
-  second-proper r P =
-      record {
-        inside = λ i l. rw (starts-after i (after (w .count) r i)) at (P .inside (w .count + i) (omega arith));
-        apart = λ i j l m e. omega (arith, P .apart (w .count + i) (w .count + j) (omega arith) (omega arith) e);
-      }
-
-  first-lower : (i j : ℕ) → i < w .count → j < w .count → Lower (joined w v .deadline) i j ≡ Lower (w .deadline) i j
-  first-lower i j l m =
-      rw (beside-first (w .count) (w .deadline) (v .deadline) i l, beside-first (w .count) (w .deadline) (v .deadline) j m)
-
-  after-lower : (i j : ℕ) → Lower (joined w v .deadline) (w .count + i) (w .count + j) → Lower (v .deadline) i j
-  after-lower i j low =
-      ⊎-elim (λ h. inl h) (λ h. inr (h .0, omega arith))
-      (rw (beside-after (w .count) (w .deadline) (v .deadline) i, beside-after (w .count) (w .deadline) (v .deadline) j) at low)
-
-  lower-after : (i j : ℕ) → Lower (v .deadline) i j → Lower (joined w v .deadline) (w .count + i) (w .count + j)
-  lower-after i j low =
-      rw (beside-after (w .count) (w .deadline) (v .deadline) i, beside-after (w .count) (w .deadline) (v .deadline) j)
-      (⊎-elim (λ h. inl h) (λ h. inr (h .0, omega arith)) low)
-
-  -- of two plans that agree on the second list
-  first-as-late : (r s : Plan) → ((k : ℕ) → k < v .count → r (w .count + k) ≡ s (w .count + k)) → AsLate (joined w v) r s
-      → AsLate w r s
-  first-as-late r s agree (same f) = same (λ i l. f i (omega arith))
-  first-as-late r s agree (later i l d above) =
-      on-row (λ i. s i < r i → ((j : ℕ) → j < w .count + v .count → Lower (joined w v .deadline) i j → r j ≡ s j) → AsLate w r s)
-      (w .count) (v .count) i l
-      (λ i l d above. later i l d (λ j m low. above j (omega arith) (rw (first-lower i j l m) low)))
-      (λ k l d above. absurd (omega (arith, agree k l)))
-      d above
-
-  -- of two plans that agree on the first list
-  second-as-late : (r s : Plan) → ((i : ℕ) → i < w .count → r i ≡ s i) → AsLate (joined w v) r s
-      → AsLate v (after (w .count) r) (after (w .count) s)
-  second-as-late r s agree (same f) = same (λ k l. f (w .count + k) (omega arith))
-  second-as-late r s agree (later i l d above) =
-      on-row (λ i. s i < r i → ((j : ℕ) → j < w .count + v .count → Lower (joined w v .deadline) i j → r j ≡ s j) → AsLate v (after (w .count) r) (after (w .count) s))
-      (w .count) (v .count) i l
-      (λ i l d above. absurd (omega (arith, agree i l)))
-      (λ k l d above. later k l d (λ j m low. above (w .count + j) (omega arith) (lower-after k j low)))
-      d above
+  pub second-no-plan : NoPlan v → NoPlan (joined w v)
+  second-no-plan none r P = none (after (w .count) r) (second-proper w v r P)
 
 module _ {power : Power} {g h : ℕ} {w v : Windows} (apart : Apart power g h w v) where
-  pub first-ends : (p : Plan) → Proper w p → (i : ℕ) → i < w .count → p i < g
-  first-ends p P i l = omega (arith, apart .first i l, P .inside i l)
+  pub beside-proper : (p q : Plan) → Proper w p → Proper v q → Proper (joined w v) (beside (w .count) p q)
+  beside-proper p q P Q =
+      joined-proper apart (beside (w .count) p q)
+      (proper-cong w w p (beside (w .count) p q) (alike-refl w) (λ i l. sym (beside-first (w .count) p q i l)) P)
+      (proper-cong v v q (after (w .count) (beside (w .count) p q)) (alike-refl v) (λ k l. sym (beside-after (w .count) p q k)) Q)
 
-  pub second-begins : (q : Plan) → Proper v q → (k : ℕ) → k < v .count → h ≤ q k
-  second-begins q Q k l = omega (arith, apart .second k l, Q .inside k l)
+  -- two lists that join to none: where the first has a plan, the second has none
+  pub rest-no-plan : NoPlan (joined w v) → (p : Plan) → Proper w p → NoPlan v
+  rest-no-plan none p P q Q = none (beside (w .count) p q) (beside-proper p q P Q)
 
-  pub starts-apart : (p q : Plan) → Proper w p → Proper v q → (i k : ℕ) → i < w .count → k < v .count → p i < q k
-  starts-apart p q P Q i k l m = omega (arith, apart .order, first-ends p P i l, second-begins q Q k m)
+-- the best plan of the joined list, made of the best plans of its parts
+pub record BesideBest (day : Day) (w v : Windows) (p q : Plan) : Type 0 where
+  pub best : Best day (joined w v) (beside (w .count) p q)
+  pub costs : cost day (w .count + v .count) (beside (w .count) p q)
+      ≡ cost day (w .count) p + cost day (v .count) q + joining (day .power) w v
 
-  pub joined-proper : (r : Plan) → Proper w r → Proper v (after (w .count) r) → Proper (joined w v) r
-  joined-proper r P Q =
-      record {
-        inside = λ i l.
-            on-row (λ i. MayStart (joined w v) i (r i)) (w .count) (v .count) i l
-            (λ j m. rw (starts-first w v j (r j) m) (P .inside j m))
-            (λ k m. rw (starts-after w v k (r (w .count + k))) (Q .inside k m));
-        apart = λ i j l m.
-            on-row (λ i. r i ≡ r j → i ≡ j) (w .count) (v .count) i l
-            (λ i l.
-            on-row (λ j. r i ≡ r j → i ≡ j) (w .count) (v .count) j m (λ j m e. P .apart i j l m e)
-            (λ k m e. absurd (omega (arith, starts-apart r (after (w .count) r) P Q i k l m))))
-            (λ i l.
-            on-row (λ j. r (w .count + i) ≡ r j → w .count + i ≡ j) (w .count) (v .count) j m
-            (λ j m e. absurd (omega (arith, starts-apart r (after (w .count) r) P Q j i m l)))
-            (λ k m e. ap (λ x. w .count + x) (Q .apart i k l m e)));
-      }
+-- the best plans of two lists, as parts of the best plan of the joined list
+pub record PartsBest (day : Day) (w v : Windows) (r : Plan) : Type 0 where
+  pub first : Best day w r
+  pub second : Best day v (after (w .count) r)
+  pub costs : cost day (w .count + v .count) r
+      ≡ cost day (w .count) r + cost day (v .count) (after (w .count) r) + joining (day .power) w v
 
-  -- every row of the second list has a higher number than every row of the first
-  rows-apart : (q : Plan) → Proper v q → (i k : ℕ) → i < w .count → k < v .count → w .deadline i < v .deadline k
-  rows-apart q Q i k l m = omega (arith, apart .order, apart .first i l, apart .second k m, Q .inside k m)
-
-  after-not-lower : (q : Plan) → Proper v q → (j k : ℕ) → j < w .count → k < v .count
-      → Lower (joined w v .deadline) (w .count + k) j → ⊥
-  after-not-lower q Q j k l m =
-      ⊎-elim
-      (λ h.
+module _ {day : Day} {g h : ℕ} {w v : Windows} (apart : Apart (day .power) g h w v)
+    (within : (k : ℕ) → k < v .count → v .deadline k ≤ day .slots) where
+  pub beside-cost : (p q : Plan) → Proper w p → Proper v q
+      → cost day (w .count + v .count) (beside (w .count) p q)
+      ≡ cost day (w .count) p + cost day (v .count) q + joining (day .power) w v
+  beside-cost p q P Q =
       omega (
         arith,
-        rows-apart q Q j k l m,
-        beside-first (w .count) (w .deadline) (v .deadline) j l,
-        beside-after (w .count) (w .deadline) (v .deadline) k,
-      ))
-      (λ h. omega arith)
+        joined-cost apart within (beside (w .count) p q) (beside-proper apart p q P Q),
+        cost-agree day (w .count) (beside (w .count) p q) p (beside-first (w .count) p q),
+        cost-agree day (v .count) (after (w .count) (beside (w .count) p q)) q (λ k l. beside-after (w .count) p q k),
+      )
 
-  pub joined-as-late : (r s q : Plan) → Proper v q → AsLate w r s → AsLate v (after (w .count) r) (after (w .count) s)
-      → AsLate (joined w v) r s
-  joined-as-late r s q Q L (later k l d above) =
-      later (w .count + k) (omega arith) d (λ j m.
-      on-row (λ j. Lower (joined w v .deadline) (w .count + k) j → r j ≡ s j) (w .count) (v .count) j m
-      (λ j m low. absurd (after-not-lower q Q j k m l low))
-      (λ i m low. above i m (after-lower w v k i low)))
-  joined-as-late r s q Q (later i l d above) (same e) =
-      later i (omega arith) d (λ j m.
-      on-row (λ j. Lower (joined w v .deadline) i j → r j ≡ s j) (w .count) (v .count) j m
-      (λ j m low. above j m (rw (first-lower w v i j l m) at low))
-      (λ k m low. e k m))
-  joined-as-late r s q Q (same f) (same e) = same (λ j m. on-row (λ j. r j ≡ s j) (w .count) (v .count) j m f e)
+  joined-best : (r : Plan) → Best day w r → Best day v (after (w .count) r) → Best day (joined w v) r
+  joined-best r B C =
+      give (joined-proper apart r (B .proper) (C .proper))
+      (λ P.
+      give (joined-cost apart within r P)
+      (λ c.
+      record {
+        proper = P;
+        cheapest = λ s S.
+            omega (
+              arith,
+              joined-cost apart within s S,
+              B .cheapest s (first-proper w v s S),
+              C .cheapest (after (w .count) s) (second-proper w v s S),
+            );
+        latest = λ s S e.
+            give (joined-cost apart within s S)
+            (λ d.
+            give (B .cheapest s (first-proper w v s S))
+            (λ a.
+            give (C .cheapest (after (w .count) s) (second-proper w v s S))
+            (λ b.
+            joined-as-late apart r s (after (w .count) r) (C .proper)
+            (B .latest s (first-proper w v s S) (omega arith))
+            (C .latest (after (w .count) s) (second-proper w v s S) (omega arith)))));
+      }))
+
+  pub beside-best : (p q : Plan) → Best day w p → Best day v q → BesideBest day w v p q
+  beside-best p q B C =
+      record {
+        best =
+            joined-best (beside (w .count) p q)
+            (best-cong day w w p (beside (w .count) p q) (alike-refl w) (λ i l. sym (beside-first (w .count) p q i l)) B)
+            (best-cong day v v q (after (w .count) (beside (w .count) p q)) (alike-refl v)
+            (λ k l. sym (beside-after (w .count) p q k)) C);
+        costs = beside-cost p q (B .proper) (C .proper);
+      }
+
+  -- against the best plan of the joined list, any two plans side by side
+
+  parts-cheapest : (r p q : Plan) → Best day (joined w v) r → Proper w p → Proper v q
+      → cost day (w .count) r + cost day (v .count) (after (w .count) r) ≤ cost day (w .count) p + cost day (v .count) q
+  parts-cheapest r p q B P Q =
+      omega (
+        arith,
+        joined-cost apart within r (B .proper),
+        beside-cost p q P Q,
+        B .cheapest (beside (w .count) p q) (beside-proper apart p q P Q),
+      )
+
+  parts-latest : (r p q : Plan) → Best day (joined w v) r → Proper w p → Proper v q
+      → cost day (w .count) p + cost day (v .count) q ≡ cost day (w .count) r + cost day (v .count) (after (w .count) r)
+      → AsLate (joined w v) r (beside (w .count) p q)
+  parts-latest r p q B P Q e =
+      B .latest (beside (w .count) p q) (beside-proper apart p q P Q)
+      (omega (arith, joined-cost apart within r (B .proper), beside-cost p q P Q))
+
+  first-best : (r : Plan) → Best day (joined w v) r → Best day w r
+  first-best r B =
+      give (second-proper w v r (B .proper))
+      (λ Q.
+      record {
+        proper = first-proper w v r (B .proper);
+        cheapest = λ p P. omega (arith, parts-cheapest r p (after (w .count) r) B P Q);
+        latest = λ p P e. first-as-late w v r p (parts-latest r p (after (w .count) r) B P Q (omega arith));
+      })
+
+  second-best : (r : Plan) → Best day (joined w v) r → Best day v (after (w .count) r)
+  second-best r B =
+      give (first-proper w v r (B .proper))
+      (λ P.
+      record {
+        proper = second-proper w v r (B .proper);
+        cheapest = λ q Q. omega (arith, parts-cheapest r r q B P Q);
+        latest = λ q Q e. second-as-late w v r q (parts-latest r r q B P Q (omega arith));
+      })
+
+  pub parts-best : (r : Plan) → Best day (joined w v) r → PartsBest day w v r
+  parts-best r B =
+      record { first = first-best r B; second = second-best r B; costs = joined-cost apart within r (B .proper) }

@@ -10,5 +10,6 @@ pub mod Number
 pub mod Best
 pub mod Mirrored
 pub mod Moved
+pub mod Joined
+pub mod JoinedCost
 pub mod Beside
-pub mod BesideCost

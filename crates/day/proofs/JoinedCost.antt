@@ -4,19 +4,21 @@ use mathlib.Core.Path.{_≡_, refl, sym, _∙_, ap}
 use mathlib.Core.Bool.{Bool, true, false}
 use mathlib.Core.Logic.{_⊎_, inl, inr, ⊎-elim}
 use native.Mathlib.Omega.{arith}
+use lib.Dec.{eqb}
 use borrow.Author.Tests.{eq-eqb, ne-eqb}
+use Rattle.day.specs.declared.Power.{Power}
 use Rattle.day.specs.declared.Day.{Day}
 use Rattle.day.specs.Windows.{Windows}
 use Rattle.day.specs.Plan.{Plan, Proper, taken}
 use Rattle.day.specs.Gap.{price, cost}
 use Rattle.day.specs.Far.{far-price, from-one}
 use Rattle.day.specs.Change.{after, joined, joining, Apart}
-use Rattle.day.proofs.Cases.{give, on-le, on-eq}
+use Rattle.day.proofs.Cases.{give, on-le, on-eq, or-right}
 use Rattle.day.proofs.Span.{span, span-cong, span-empty, span-split}
 use Rattle.day.proofs.Plan.{Taker, taken-intro, taken-false, taken-same}
 use Rattle.day.proofs.Gap.{cost-same, cost-none}
 use Rattle.day.proofs.Far.{from-one-zero, from-one-suc, far-price-start, far-price-end, far-price-inside, cost-far}
-use Rattle.day.proofs.Beside.{on-row, first-proper, second-proper, first-ends, second-begins, starts-apart}
+use Rattle.day.proofs.Joined.{on-row, first-proper, second-proper, first-ends, second-begins, starts-apart}
 
 -- the laws of a span, said of slots
 
@@ -188,6 +190,19 @@ module _ (day : Day) (n m : ℕ) (r : Plan) (last : Last Earlier n r) (first : L
             (λ t a b. taken-after n m r t (not-first t (omega arith))),
       )))
 
+-- what joining adds
+
+pub joining-both : (power : Power) (w v : Windows) → 0 < w .count → 0 < v .count → joining power w v ≡ power .wake
+joining-both power w v some more =
+    rw (ne-eqb (w .count) 0 (λ z. omega arith), ne-eqb (v .count) 0 (λ z. omega arith))
+
+pub joining-first-empty : (power : Power) (w v : Windows) → w .count ≡ 0 → joining power w v ≡ 0
+joining-first-empty power w v none = rw (eq-eqb (w .count) 0 none)
+
+pub joining-second-empty : (power : Power) (w v : Windows) → v .count ≡ 0 → joining power w v ≡ 0
+joining-second-empty power w v none =
+    rw (or-right (eqb (w .count) 0) (eqb (v .count) 0) (eq-eqb (v .count) 0 none))
+
 -- where a list is empty, the joined list costs what the other does
 
 module _ (day : Day) (n m : ℕ) (r : Plan) where
@@ -248,18 +263,26 @@ module _ {day : Day} {g h : ℕ} {w v : Windows} (apart : Apart (day .power) g h
         apart .between (r (w .count + first .row) - suc (r (last .row))) (omega arith),
       ))))))
 
-  -- the cost of the joined list is the sum of the costs, and a wake for what lies between
+  -- the cost of the joined list is the sum of the costs and what joining adds
   pub joined-cost : (r : Plan) → Proper (joined w v) r
       → cost day (w .count + v .count) r
       ≡ cost day (w .count) r + cost day (v .count) (after (w .count) r) + joining (day .power) w v
   joined-cost r P =
-      on-eq (w .count) 0
-      (λ none.
-      rw (eq-eqb (w .count) 0 none) (omega (arith, first-empty-cost day (w .count) (v .count) r none)))
+      on-le 1 (w .count)
       (λ some.
-      on-eq (v .count) 0
+      on-le 1 (v .count)
+      (λ more. omega (arith, both-cost r P some more, joining-both (day .power) w v some more))
       (λ none.
-      rw (ne-eqb (w .count) 0 some, eq-eqb (v .count) 0 none)
-      (omega (arith, second-empty-cost day (w .count) (v .count) r none)))
-      (λ more.
-      rw (ne-eqb (w .count) 0 some, ne-eqb (v .count) 0 more) (both-cost r P (omega arith) (omega arith))))
+      let empty : v .count ≡ 0 = omega arith in
+      omega (
+        arith,
+        second-empty-cost day (w .count) (v .count) r empty,
+        joining-second-empty (day .power) w v empty,
+      )))
+      (λ none.
+      let empty : w .count ≡ 0 = omega arith in
+      omega (
+        arith,
+        first-empty-cost day (w .count) (v .count) r empty,
+        joining-first-empty (day .power) w v empty,
+      ))

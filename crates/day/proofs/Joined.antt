@@ -1,0 +1,148 @@
+-- Two lists side by side: proper plans and lateness of the joined list, from those of its parts and back. Assumes nothing.
+use Prim.Native.Nat.{ℕ, _+_, _-_, _≤_, _<_}
+use mathlib.Core.Path.{_≡_, _∙_, ap}
+use mathlib.Core.Logic.{_⊎_, inl, inr, ⊎-elim}
+use native.Mathlib.Omega.{arith}
+use borrow.Author.Tests.{lt-ltb, le-ltb}
+use Rattle.day.specs.declared.Power.{Power}
+use Rattle.day.specs.Windows.{Windows}
+use Rattle.day.specs.Plan.{Plan, MayStart, Proper}
+use Rattle.day.specs.Number.{Lower}
+use Rattle.day.specs.Best.{AsLate, same, later}
+use Rattle.day.specs.Change.{beside, after, joined, Apart}
+use Rattle.day.proofs.Cases.{on-le}
+
+pub beside-first : (n : ℕ) (f g : ℕ → ℕ) (i : ℕ) → i < n → beside n f g i ≡ f i
+beside-first n f g i h = rw (lt-ltb i n h)
+
+pub beside-after : (n : ℕ) (f g : ℕ → ℕ) (i : ℕ) → beside n f g (n + i) ≡ g i
+beside-after n f g i = rw (le-ltb (n + i) n (omega arith)) (ap g (omega arith))
+
+-- a row of the joined list is a row of the first, or one of the second after the n of the first
+pub on-row : (C : ℕ → Type 0) (n m i : ℕ) → i < n + m → ((j : ℕ) → j < n → C j) → ((k : ℕ) → k < m → C (n + k)) → C i
+on-row C n m i l first second =
+    on-le n i (λ h. let e : n + (i - n) ≡ i = omega arith in rw e at (second (i - n) (omega arith))) (λ h. first i h)
+
+module _ (w v : Windows) where
+  starts-first : (i t : ℕ) → i < w .count → MayStart (joined w v) i t ≡ MayStart w i t
+  starts-first i t l =
+      rw (beside-first (w .count) (w .release) (v .release) i l, beside-first (w .count) (w .deadline) (v .deadline) i l)
+
+  starts-after : (i t : ℕ) → MayStart (joined w v) (w .count + i) t ≡ MayStart v i t
+  starts-after i t =
+      rw (beside-after (w .count) (w .release) (v .release) i, beside-after (w .count) (w .deadline) (v .deadline) i)
+
+  pub first-proper : (r : Plan) → Proper (joined w v) r → Proper w r
+  first-proper r P =
+      record {
+        inside = λ i l. rw (starts-first i (r i) l) at (P .inside i (omega arith));
+        apart = λ i j l m e. P .apart i j (omega arith) (omega arith) e;
+      }
+
+  pub second-proper : (r : Plan) → Proper (joined w v) r → Proper v (after (w .count) r)
+  second-proper r P =
+      record {
+        inside = λ i l. rw (starts-after i (after (w .count) r i)) at (P .inside (w .count + i) (omega arith));
+        apart = λ i j l m e. omega (arith, P .apart (w .count + i) (w .count + j) (omega arith) (omega arith) e);
+      }
+
+  first-lower : (i j : ℕ) → i < w .count → j < w .count → Lower (joined w v .deadline) i j ≡ Lower (w .deadline) i j
+  first-lower i j l m =
+      rw (beside-first (w .count) (w .deadline) (v .deadline) i l, beside-first (w .count) (w .deadline) (v .deadline) j m)
+
+  after-lower : (i j : ℕ) → Lower (joined w v .deadline) (w .count + i) (w .count + j) → Lower (v .deadline) i j
+  after-lower i j low =
+      ⊎-elim (λ h. inl h) (λ h. inr (h .0, omega arith))
+      (rw (beside-after (w .count) (w .deadline) (v .deadline) i, beside-after (w .count) (w .deadline) (v .deadline) j) at low)
+
+  lower-after : (i j : ℕ) → Lower (v .deadline) i j → Lower (joined w v .deadline) (w .count + i) (w .count + j)
+  lower-after i j low =
+      rw (beside-after (w .count) (w .deadline) (v .deadline) i, beside-after (w .count) (w .deadline) (v .deadline) j)
+      (⊎-elim (λ h. inl h) (λ h. inr (h .0, omega arith)) low)
+
+  -- r is later than s at row i of the joined list, and the same at each row of a higher number
+  abbrev LaterAt : Plan → Plan → ℕ → Type 0
+  LaterAt r s i =
+      (s i < r i) × ((j : ℕ) → j < w .count + v .count → Lower (joined w v .deadline) i j → r j ≡ s j)
+
+  -- against a plan that differs on the first list alone
+  pub first-as-late : (r p : Plan) → AsLate (joined w v) r (beside (w .count) p (after (w .count) r)) → AsLate w r p
+  first-as-late r p (same f) = same (λ i l. f i (omega arith) ∙ beside-first (w .count) p (after (w .count) r) i l)
+  first-as-late r p (later i l d above) =
+      on-row (λ i. LaterAt r (beside (w .count) p (after (w .count) r)) i → AsLate w r p) (w .count) (v .count) i l
+      (λ i l x.
+      later i l (omega (arith, x .0, beside-first (w .count) p (after (w .count) r) i l))
+      (λ j m low.
+      x .1 j (omega arith) (rw (first-lower i j l m) low) ∙ beside-first (w .count) p (after (w .count) r) j m))
+      (λ k l x. absurd (omega (arith, x .0, beside-after (w .count) p (after (w .count) r) k)))
+      (d, above)
+
+  -- against a plan that differs on the second list alone
+  pub second-as-late : (r q : Plan) → AsLate (joined w v) r (beside (w .count) r q) → AsLate v (after (w .count) r) q
+  second-as-late r q (same f) = same (λ k l. f (w .count + k) (omega arith) ∙ beside-after (w .count) r q k)
+  second-as-late r q (later i l d above) =
+      on-row (λ i. LaterAt r (beside (w .count) r q) i → AsLate v (after (w .count) r) q) (w .count) (v .count) i l
+      (λ i l x. absurd (omega (arith, x .0, beside-first (w .count) r q i l)))
+      (λ k l x.
+      later k l (omega (arith, x .0, beside-after (w .count) r q k))
+      (λ j m low. x .1 (w .count + j) (omega arith) (lower-after k j low) ∙ beside-after (w .count) r q j))
+      (d, above)
+
+module _ {power : Power} {g h : ℕ} {w v : Windows} (apart : Apart power g h w v) where
+  pub first-ends : (p : Plan) → Proper w p → (i : ℕ) → i < w .count → p i < g
+  first-ends p P i l = omega (arith, apart .first i l, P .inside i l)
+
+  pub second-begins : (q : Plan) → Proper v q → (k : ℕ) → k < v .count → h ≤ q k
+  second-begins q Q k l = omega (arith, apart .second k l, Q .inside k l)
+
+  pub starts-apart : (p q : Plan) → Proper w p → Proper v q → (i k : ℕ) → i < w .count → k < v .count → p i < q k
+  starts-apart p q P Q i k l m = omega (arith, apart .order, first-ends p P i l, second-begins q Q k m)
+
+  pub joined-proper : (r : Plan) → Proper w r → Proper v (after (w .count) r) → Proper (joined w v) r
+  joined-proper r P Q =
+      record {
+        inside = λ i l.
+            on-row (λ i. MayStart (joined w v) i (r i)) (w .count) (v .count) i l
+            (λ j m. rw (starts-first w v j (r j) m) (P .inside j m))
+            (λ k m. rw (starts-after w v k (r (w .count + k))) (Q .inside k m));
+        apart = λ i j l m.
+            on-row (λ i. r i ≡ r j → i ≡ j) (w .count) (v .count) i l
+            (λ i l.
+            on-row (λ j. r i ≡ r j → i ≡ j) (w .count) (v .count) j m (λ j m e. P .apart i j l m e)
+            (λ k m e. absurd (omega (arith, starts-apart r (after (w .count) r) P Q i k l m))))
+            (λ i l.
+            on-row (λ j. r (w .count + i) ≡ r j → w .count + i ≡ j) (w .count) (v .count) j m
+            (λ j m e. absurd (omega (arith, starts-apart r (after (w .count) r) P Q j i m l)))
+            (λ k m e. ap (λ x. w .count + x) (Q .apart i k l m e)));
+      }
+
+  -- every row of the second list has a higher number than every row of the first
+  rows-apart : (q : Plan) → Proper v q → (i k : ℕ) → i < w .count → k < v .count → w .deadline i < v .deadline k
+  rows-apart q Q i k l m = omega (arith, apart .order, apart .first i l, apart .second k m, Q .inside k m)
+
+  after-not-lower : (q : Plan) → Proper v q → (j k : ℕ) → j < w .count → k < v .count
+      → Lower (joined w v .deadline) (w .count + k) j → ⊥
+  after-not-lower q Q j k l m =
+      ⊎-elim
+      (λ h.
+      omega (
+        arith,
+        rows-apart q Q j k l m,
+        beside-first (w .count) (w .deadline) (v .deadline) j l,
+        beside-after (w .count) (w .deadline) (v .deadline) k,
+      ))
+      (λ h. omega arith)
+
+  pub joined-as-late : (r s q : Plan) → Proper v q → AsLate w r s → AsLate v (after (w .count) r) (after (w .count) s)
+      → AsLate (joined w v) r s
+  joined-as-late r s q Q L (later k l d above) =
+      later (w .count + k) (omega arith) d (λ j m.
+      on-row (λ j. Lower (joined w v .deadline) (w .count + k) j → r j ≡ s j) (w .count) (v .count) j m
+      (λ j m low. absurd (after-not-lower q Q j k m l low))
+      (λ i m low. above i m (after-lower w v k i low)))
+  joined-as-late r s q Q (later i l d above) (same e) =
+      later i (omega arith) d (λ j m.
+      on-row (λ j. Lower (joined w v .deadline) i j → r j ≡ s j) (w .count) (v .count) j m
+      (λ j m low. above j m (rw (first-lower w v i j l m) at low))
+      (λ k m low. e k m))
+  joined-as-late r s q Q (same f) (same e) = same (λ j m. on-row (λ j. r j ≡ s j) (w .count) (v .count) j m f e)
