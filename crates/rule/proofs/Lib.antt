@@ -1,3 +1,7 @@
--- The laws of the definitions in specs/, and the theorem that the plan read back is the best.
+-- The laws of the definitions in specs/, then the theorem over any span: LowerBound (no plan is cheaper than the value) and Optimal (the
+-- plan read back is the latest of the cheapest). Printed shows the source's formula wrong.
 pub mod Extreme
 pub mod Value
+pub mod Occupied
+pub mod Cut
+pub mod Swap
