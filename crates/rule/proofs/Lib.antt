@@ -5,3 +5,6 @@ pub mod Value
 pub mod Occupied
 pub mod Cut
 pub mod Swap
+pub mod LowerBound
+pub mod Late
+pub mod Optimal

@@ -1,0 +1,46 @@
+-- No plan of a span costs less than the span's value. Assumes nothing.
+use Prim.Native.Nat.{ℕ, zero, suc, _≤_}
+use native.Mathlib.Omega.{arith}
+use Rattle.day.proofs.Cases.{give}
+use Rattle.rule.specs.Span.{Problem, value}
+use Rattle.rule.proofs.Value.{In, on-in-span, value-zero, value-out, value-le-sides, sides-is}
+use Rattle.rule.proofs.Occupied.{SpanPlan, span-cost, cost-out, cost-zero}
+use Rattle.rule.proofs.Cut.{cut-may-split, cut-left, cut-right, cost-cut}
+use Rattle.rule.proofs.Swap.{ByDeadline, settle}
+
+-- a plan of the lowest k + 1 jobs is one of the lowest k
+pub plan-fewer : (P : Problem) (k s e : ℕ) (q : ℕ → ℕ) → SpanPlan P (suc k) s e q → SpanPlan P k s e q
+plan-fewer P k s e q plan =
+    record {
+      allowed = λ i l h. plan .allowed i (omega arith) h;
+      fits = λ i l h. plan .fits i (omega arith) h;
+      apart = λ i j l u h g w. plan .apart i j (omega arith) (omega arith) h g w;
+    }
+
+-- settle the plan at job k; then each side costs at least its value, and the sum of the two is at least the least sum
+pub no-plan-is-cheaper : (P : Problem) {n : ℕ} → ByDeadline P n → (k s e : ℕ) (q : ℕ → ℕ) → k ≤ n → s ≤ e → SpanPlan P k s e q
+    → value P k s e ≤ span-cost P k s e q
+no-plan-is-cheaper P by zero s e q kn l plan = omega (arith, value-zero P s e, cost-zero P s e q l)
+no-plan-is-cheaper P by (suc k) s e q kn l plan =
+    on-in-span P s e k
+    (λ h.
+    give (settle P by k s e q kn plan h)
+    (λ w.
+    give (w .plan .fits k (omega arith) h)
+    (λ f.
+    omega (
+      arith,
+      w .same-cost,
+      cost-cut P k s e (w .to) (w .plan) h (w .settled),
+      no-plan-is-cheaper P by k s (w .to k) (w .to) (omega arith) (omega arith) (cut-left P k s e (w .to) (w .plan) h (w .settled)),
+      no-plan-is-cheaper P by k (suc (w .to k)) e (w .to) (omega arith) (omega arith) (cut-right P k s e (w .to) (w .plan) h (w .settled)),
+      value-le-sides P k s e (w .to k) h (cut-may-split P k s e (w .to) (w .plan) h (w .settled)) (omega arith),
+      sides-is P k s e (w .to k),
+    ))))
+    (λ n.
+    omega (
+      arith,
+      value-out P k s e n,
+      cost-out P k s e q l n,
+      no-plan-is-cheaper P by k s e q (omega arith) l (plan-fewer P k s e q plan),
+    ))
