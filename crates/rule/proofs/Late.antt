@@ -1,6 +1,6 @@
 -- The tie rule on the jobs of a span, and how the two sides of a split make up the whole. Assumes nothing.
 use Prim.Native.Nat.{ℕ, suc, _≤_, _<_}
-use mathlib.Core.Path.{_≡_, _∙_}
+use mathlib.Core.Path.{_≡_, _∙_, ap}
 use native.Mathlib.Omega.{arith}
 use Rattle.day.proofs.Cases.{on-eq, on-le, give}
 use Rattle.rule.specs.Span.{Problem}
@@ -18,6 +18,16 @@ late-more P k s e p q top (same f) = same (λ i l h. on-eq i k (λ w. rw w (top 
 late-more P k s e p q top (later i l h c f) =
     later i (omega arith) h c
     (λ j u v g. on-eq j k (λ w. rw w (top (rw w at g))) (λ w. f j u (omega arith) g))
+
+-- at the highest job it is no earlier
+pub late-top : (P : Problem) (k s e : ℕ) (p q : ℕ → ℕ) → In P s e k → LateInSpan P (suc k) s e p q → q k ≤ p k
+late-top P k s e p q h (same f) = omega (arith, f k (omega arith) h)
+late-top P k s e p q h (later i l g c f) =
+    on-eq i k (λ w. omega (arith, ap p w, ap q w)) (λ w. omega (arith, f k (omega arith) (omega arith) h))
+
+-- later at the highest job is later
+pub late-at-top : (P : Problem) (k s e : ℕ) (p q : ℕ → ℕ) → In P s e k → q k < p k → LateInSpan P (suc k) s e p q
+late-at-top P k s e p q h c = later k (omega arith) h c (λ j u v. absurd (omega arith))
 
 -- of a span split at t: p is `left` on the jobs released before t and `right` on those released after it, and none is released at t
 pub record Parts (P : Problem) (k s t e : ℕ) (p left right : ℕ → ℕ) : Type 0 where

@@ -7,4 +7,5 @@ pub mod Cut
 pub mod Swap
 pub mod LowerBound
 pub mod Late
+pub mod Assemble
 pub mod Optimal
