@@ -25,8 +25,9 @@ module _ (day : Day) (w : Windows) (row : ℕ → ℕ) (none : ℕ) (R : Ready d
   jobs = problem day w row none
 
   -- every job is released between the far points
-  pub in-day : (k : ℕ) → k < w .count → In jobs 0 (day .slots + 2) k
-  in-day k l = give (R .inside (row k) (R .numbered .within k l)) (λ h. omega arith)
+  pub released-in-day : (k : ℕ) → k < w .count → In jobs 0 (day .slots + 2) k
+  released-in-day k l =
+      give (R .numbered .within k l) (λ i. omega (arith, R .window (row k) i, R .in-day (row k) i))
 
   pub by-deadline : ByDeadline jobs (w .count)
   by-deadline k l h b =
@@ -40,7 +41,7 @@ module _ (day : Day) (w : Windows) (row : ℕ → ℕ) (none : ℕ) (R : Ready d
       record {
         fits = λ k l h.
             give (R .numbered .within k l)
-            (λ i. omega (arith, e k l, P .inside (row k) i, R .inside (row k) i));
+            (λ i. omega (arith, e k l, P .inside (row k) i, R .in-day (row k) i));
         allowed = λ k l h. refl;
         apart = λ k l h u m v q.
             one-number (w .count) (w .deadline) row (R .numbered) k l h u
@@ -54,14 +55,14 @@ module _ (day : Day) (w : Windows) (row : ℕ → ℕ) (none : ℕ) (R : Ready d
       record {
         inside = λ i l.
             give (R .numbered .each i l)
-            (λ n. rw (← n .2) (omega (arith, e (n .0) (n .1), P .fits (n .0) (n .1) (in-day (n .0) (n .1)))));
+            (λ n. rw (← n .2) (omega (arith, e (n .0) (n .1), P .fits (n .0) (n .1) (released-in-day (n .0) (n .1)))));
         apart = λ i j l u q.
             give (R .numbered .each i l)
             (λ n.
             give (R .numbered .each j u)
             (λ m.
             sym (n .2)
-            ∙ ap row (P .apart (n .0) (m .0) (n .1) (m .1) (in-day (n .0) (n .1)) (in-day (m .0) (m .1))
+            ∙ ap row (P .apart (n .0) (m .0) (n .1) (m .1) (released-in-day (n .0) (n .1)) (released-in-day (m .0) (m .1))
             (omega (arith, e (n .0) (n .1), e (m .0) (m .1), ap p (n .2), ap p (m .2))))
             ∙ m .2));
       }
@@ -87,7 +88,7 @@ module _ (day : Day) (w : Windows) (row : ℕ → ℕ) (none : ℕ) (R : Ready d
       (λ o.
       give (R .numbered .each (o .row) (o .below))
       (λ n.
-      occupied-intro jobs (w .count) 0 (day .slots + 2) b (suc t) (n .0) (n .1) (in-day (n .0) (n .1))
+      occupied-intro jobs (w .count) 0 (day .slots + 2) b (suc t) (n .0) (n .1) (released-in-day (n .0) (n .1))
       (omega (arith, e (n .0) (n .1), ap p (n .2))))))
       ∙ sym (from-one-suc (taken (w .count) p) t)
 
@@ -99,7 +100,7 @@ module _ (day : Day) (w : Windows) (row : ℕ → ℕ) (none : ℕ) (R : Ready d
     -- as late by number is as late by row
     pub late-by-row : LateInSpan jobs (w .count) 0 (day .slots + 2) b c → AsLate w p q
     late-by-row (same-by-number g) =
-        same (λ i l. give (R .numbered .each i l) (λ n. same-start i n (g (n .0) (n .1) (in-day (n .0) (n .1)))))
+        same (λ i l. give (R .numbered .each i l) (λ n. same-start i n (g (n .0) (n .1) (released-in-day (n .0) (n .1)))))
     late-by-row (later-by-number k l h m g) =
         later (row k) (R .numbered .within k l) (omega (arith, e k l, f k l))
         (λ j u o.
@@ -107,4 +108,4 @@ module _ (day : Day) (w : Windows) (row : ℕ → ℕ) (none : ℕ) (R : Ready d
         (λ n.
         same-start j n
         (g (n .0) (lower-number (w .count) (w .deadline) row (R .numbered) k (n .0) l (n .1) (rw (n .2) o)) (n .1)
-        (in-day (n .0) (n .1)))))
+        (released-in-day (n .0) (n .1)))))

@@ -18,7 +18,7 @@ use Rattle.rule.proofs.LowerBound.{no-plan-is-cheaper}
 use Rattle.rule.proofs.Assemble.{SpanBest}
 use Rattle.rule.proofs.Optimal.{read-back-is-best}
 use Rattle.rule.proofs.Numbering.{plan-by-number}
-use Rattle.rule.proofs.Rows.{in-day, by-deadline, rows-to-numbers, numbers-to-rows, same-taken, late-by-row}
+use Rattle.rule.proofs.Rows.{released-in-day, by-deadline, rows-to-numbers, numbers-to-rows, same-taken, late-by-row}
 use Rattle.rule.proofs.Ends.{ends, ends-at-most-two, cost-and-ends, ends-come-off}
 
 module _ (day : Day) (w : Windows) (row : ℕ → ℕ) (none : ℕ) (R : Ready day w row none) where
@@ -36,7 +36,7 @@ module _ (day : Day) (w : Windows) (row : ℕ → ℕ) (none : ℕ) (R : Ready d
   cost-by-number p b e P =
       span-cong (far-price day) (occupied jobs (w .count) 0 (day .slots + 2) b) (from-one (taken (w .count) p)) 0
       (day .slots + 2) (omega arith) (λ t l u. same-taken day w row none R p b e t)
-      ∙ cost-and-ends day (w .count) p (λ i l. omega (arith, P .inside i l, R .inside i l))
+      ∙ cost-and-ends day (w .count) p (λ i l. omega (arith, P .inside i l, R .in-day i l))
 
   -- no proper plan costs less than the value
   whole-least : (p : Plan) → Proper w p → whole day w row none ≤ cost day (w .count) p + ends day (w .count)
@@ -68,8 +68,8 @@ module _ (day : Day) (w : Windows) (row : ℕ → ℕ) (none : ℕ) (R : Ready d
     back-in-day k l =
         omega (
           arith,
-          back-best .plan .fits k l (in-day day w row none R k l),
-          R .inside (row k) (R .numbered .within k l),
+          back-best .plan .fits k l (released-in-day day w row none R k l),
+          R .in-day (row k) (R .numbered .within k l),
         )
 
     module _ (p : Plan) (e : ByNumber (w .count) row p (whole-back day w row none)) where

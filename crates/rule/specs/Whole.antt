@@ -41,5 +41,6 @@ ByNumber count row p b = (k : ℕ) → k < count → p (row k) + 1 ≡ b k
 -- what the rule asks of a list: its rows are numbered, its windows lie in the day, and no plan with two wakes costs as much as `none`
 pub record Ready (day : Day) (w : Windows) (row : ℕ → ℕ) (none : ℕ) : Type 0 where
   pub numbered : Numbered (w .count) (w .deadline) row
-  pub inside : (i : ℕ) → i < w .count → (w .release i < w .deadline i) × (w .deadline i ≤ day .slots)
+  pub window : (i : ℕ) → i < w .count → w .release i < w .deadline i
+  pub in-day : (i : ℕ) → i < w .count → w .deadline i ≤ day .slots
   pub above : (p : Plan) → Proper w p → cost day (w .count) p + (day .power .wake + day .power .wake) < none
