@@ -43,7 +43,7 @@ slots-split : (day : Day) (full : ℕ → Bool) (s t e : ℕ) → s ≤ suc t �
     ≡ span (far-price day) (from-one full) s (suc t) + span (far-price day) (from-one full) (suc (suc t)) e
 slots-split day full s t e a b h = span-split (far-price day) (from-one full) s (suc t) e a b (from-one-suc full t ∙ h)
 
--- the row whose start comes last, by an order of the slots
+-- the row whose start comes last by an order of the slots; by the reverse order, the one whose start comes first
 record Last (Order : ℕ → ℕ → Type 0) (n : ℕ) (p : Plan) : Type 0 where
   row : ℕ
   below : row < n
@@ -109,9 +109,6 @@ module _ (n m : ℕ) (r : Plan) (t : ℕ) where
   taken-after none =
       taken-same (n + m) m r (after n r) t t (λ w. ⊎-elim (λ u. absurd (none u)) (λ u. u) (taken-parts w))
       (λ w. record { row = n + w .row; below = omega arith; at = w .at })
-
-cost-empty : (day : Day) (n : ℕ) (p : Plan) → n ≡ 0 → cost day n p ≡ 0
-cost-empty day n p none = rw none (cost-none day p)
 
 -- a day between its far points
 
@@ -205,6 +202,9 @@ joining-second-empty power w v none =
 
 -- where a list is empty, the joined list costs what the other does
 
+cost-empty : (day : Day) (n : ℕ) (p : Plan) → n ≡ 0 → cost day n p ≡ 0
+cost-empty day n p none = rw none (cost-none day p)
+
 module _ (day : Day) (n m : ℕ) (r : Plan) where
   first-empty-cost : n ≡ 0 → cost day (n + m) r ≡ cost day n r + cost day m (after n r)
   first-empty-cost none =
@@ -238,6 +238,17 @@ module _ {day : Day} {g h : ℕ} {w v : Windows} (apart : Apart (day .power) g h
       ))
       second)
 
+  -- what lies between a row of the first list and one of the second costs a wake
+  price-between : (r : Plan) → Proper (joined w v) r → (i k : ℕ) → i < w .count → k < v .count
+      → price (day .power) (r (w .count + k) - suc (r i)) ≡ day .power .wake
+  price-between r P i k l m =
+      apart .between (r (w .count + k) - suc (r i))
+      (omega (
+        arith,
+        first-ends apart r (first-proper w v r P) i l,
+        second-begins apart (after (w .count) r) (second-proper w v r P) k m,
+      ))
+
   -- with jobs in both lists
   both-cost : (r : Plan) → Proper (joined w v) r → 0 < w .count → 0 < v .count
       → cost day (w .count + v .count) r
@@ -247,10 +258,6 @@ module _ {day : Day} {g h : ℕ} {w v : Windows} (apart : Apart (day .power) g h
       (λ last.
       give (first-start (v .count) (after (w .count) r) more)
       (λ first.
-      give (first-ends apart r (first-proper w v r P) (last .row) (last .below))
-      (λ a.
-      give (second-begins apart (after (w .count) r) (second-proper w v r P) (first .row) (first .below))
-      (λ b.
       give (starts-inside r P more)
       (λ inside.
       omega (
@@ -258,10 +265,12 @@ module _ {day : Day} {g h : ℕ} {w v : Windows} (apart : Apart (day .power) g h
         cost-far day (w .count + v .count) r (omega arith) inside,
         cost-far day (w .count) r some (λ i l. inside i (omega arith)),
         cost-far day (v .count) (after (w .count) r) more (λ k l. inside (w .count + k) (omega arith)),
-        whole-joined day (w .count) (v .count) r last first (omega (arith, apart .order))
+        whole-joined day (w .count) (v .count) r last first
+            (starts-apart apart r (after (w .count) r) (first-proper w v r P) (second-proper w v r P)
+            (last .row) (first .row) (last .below) (first .below))
             (inside (w .count + first .row) (omega (arith, first .below))),
-        apart .between (r (w .count + first .row) - suc (r (last .row))) (omega arith),
-      ))))))
+        price-between r P (last .row) (first .row) (last .below) (first .below),
+      ))))
 
   -- the cost of the joined list is the sum of the costs and what joining adds
   pub joined-cost : (r : Plan) → Proper (joined w v) r
