@@ -12,7 +12,8 @@ use Rattle.day.specs.Far.{far-price, from-one}
 use Rattle.day.proofs.Cases.{on, on-eq, not-both, or-right}
 use Rattle.day.proofs.Span.{walk, span, walk-zero, walk-full, walk-empty, span-empty}
 use Rattle.day.proofs.Plan.{taken-intro, taken-false}
-use Rattle.day.proofs.Gap.{total-none, total-ended, gaps-since-none, gaps-since-full, gaps-since-empty, gaps-full, gaps-empty, cost-at-most-slots, cost-at-most-wakes}
+use Rattle.day.proofs.Gap.{total-none, total-ended, gaps-since-none, gaps-since-full, gaps-since-empty, gaps-full, gaps-empty}
+use Rattle.day.proofs.Bound.{cost-at-most-slots, cost-at-most-wakes}
 
 pub far-price-start : (day : Day) (e : ℕ) → far-price day 0 e ≡ day .power .wake
 unfolding far-price
