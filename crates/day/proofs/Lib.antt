@@ -5,6 +5,7 @@ pub mod Check
 pub mod Span
 pub mod Plan
 pub mod Gap
+pub mod GapRuns
 pub mod Bound
 pub mod Far
 pub mod Number
