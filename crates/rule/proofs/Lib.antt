@@ -13,3 +13,4 @@ pub mod Numbering
 pub mod Rows
 pub mod Ends
 pub mod Whole
+pub mod Printed
