@@ -1,7 +1,7 @@
 -- The laws of `least` and `latest`. Assumes nothing.
 use Prim.Native.Nat.{ℕ, zero, suc, _+_, _≤_, _<_, min}
 use mathlib.Core.Path.{_≡_, refl, sym, _∙_, ap}
-use mathlib.Core.Bool.{Bool, true, false, cond}
+use mathlib.Core.Bool.{Bool, true, false}
 use native.Mathlib.Numerals.{add-one}
 use native.Mathlib.Omega.{arith}
 use Rattle.day.proofs.Cases.{on, on-eq, on-le, give, not-both}
@@ -11,18 +11,7 @@ pub least-zero : (pass : ℕ → Bool) (f : ℕ → ℕ) (none : ℕ) → least 
 unfolding least
 least-zero pass f none = refl
 
--- m passes, m + 1 as code has it
-pub least-pass : (pass : ℕ → Bool) (f : ℕ → ℕ) (none m : ℕ) → pass m ≡ true
-    → least pass f none (m + 1) ≡ min (f m) (least pass f none m)
-unfolding least
-least-pass pass f none m e = rw (add-one, e)
-
-pub least-skip : (pass : ℕ → Bool) (f : ℕ → ℕ) (none m : ℕ) → pass m ≡ false
-    → least pass f none (m + 1) ≡ least pass f none m
-unfolding least
-least-skip pass f none m e = rw (add-one, e)
-
--- the same, as an induction has it
+-- the next place passes, or not: as an induction has it
 pass-suc : (pass : ℕ → Bool) (f : ℕ → ℕ) (none m : ℕ) → pass m ≡ true
     → least pass f none (suc m) ≡ min (f m) (least pass f none m)
 unfolding least
@@ -31,6 +20,15 @@ pass-suc pass f none m e = rw e
 skip-suc : (pass : ℕ → Bool) (f : ℕ → ℕ) (none m : ℕ) → pass m ≡ false → least pass f none (suc m) ≡ least pass f none m
 unfolding least
 skip-suc pass f none m e = rw e
+
+-- and as code has it
+pub least-pass : (pass : ℕ → Bool) (f : ℕ → ℕ) (none m : ℕ) → pass m ≡ true
+    → least pass f none (m + 1) ≡ min (f m) (least pass f none m)
+least-pass pass f none m e = rw add-one (pass-suc pass f none m e)
+
+pub least-skip : (pass : ℕ → Bool) (f : ℕ → ℕ) (none m : ℕ) → pass m ≡ false
+    → least pass f none (m + 1) ≡ least pass f none m
+least-skip pass f none m e = rw add-one (skip-suc pass f none m e)
 
 -- no value of a place that passes is less
 pub least-le : (pass : ℕ → Bool) (f : ℕ → ℕ) (none m t : ℕ) → t < m → pass t ≡ true → least pass f none m ≤ f t

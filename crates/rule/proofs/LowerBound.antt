@@ -3,19 +3,10 @@ use Prim.Native.Nat.{ℕ, zero, suc, _≤_}
 use native.Mathlib.Omega.{arith}
 use Rattle.day.proofs.Cases.{give}
 use Rattle.rule.specs.Span.{Problem, value}
-use Rattle.rule.proofs.Value.{In, on-in-span, value-zero, value-out, value-le-sides, sides-is}
-use Rattle.rule.proofs.Occupied.{SpanPlan, span-cost, cost-out, cost-zero}
+use Rattle.rule.proofs.Value.{on-in-span, value-zero, value-out, value-le-sides, sides-is}
+use Rattle.rule.proofs.Occupied.{SpanPlan, plan-fewer, span-cost, cost-out, cost-zero}
 use Rattle.rule.proofs.Cut.{cut-may-split, cut-left, cut-right, cost-cut}
 use Rattle.rule.proofs.Swap.{ByDeadline, settle}
-
--- a plan of the lowest k + 1 jobs is one of the lowest k
-pub plan-fewer : (P : Problem) (k s e : ℕ) (q : ℕ → ℕ) → SpanPlan P (suc k) s e q → SpanPlan P k s e q
-plan-fewer P k s e q plan =
-    record {
-      allowed = λ i l h. plan .allowed i (omega arith) h;
-      fits = λ i l h. plan .fits i (omega arith) h;
-      apart = λ i j l u h g w. plan .apart i j (omega arith) (omega arith) h g w;
-    }
 
 -- settle the plan at job k; then each side costs at least its value, and the sum of the two is at least the least sum
 pub no-plan-is-cheaper : (P : Problem) {n : ℕ} → ByDeadline P n → (k s e : ℕ) (q : ℕ → ℕ) → k ≤ n → s ≤ e → SpanPlan P k s e q

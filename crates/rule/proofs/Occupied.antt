@@ -1,6 +1,6 @@
 -- Plans of a span, which job stands at a slot, and what a plan of a span costs. Assumes nothing.
 use Prim.Native.Nat.{ℕ, zero, suc, _≤_, _<_}
-use mathlib.Core.Path.{_≡_, refl, _∙_}
+use mathlib.Core.Path.{_≡_, refl}
 use mathlib.Core.Bool.{Bool, true, false, _&&_, _||_}
 use mathlib.Core.Logic.{⊎-elim}
 use native.Mathlib.Omega.{arith}
@@ -16,6 +16,26 @@ pub record SpanPlan (P : Problem) (k s e : ℕ) (start : ℕ → ℕ) : Type 0 w
   pub allowed : (i : ℕ) → i < k → In P s e i → P .allowed (start i) ≡ true
   pub fits : (i : ℕ) → i < k → In P s e i → (P .release i ≤ start i) × (start i < P .deadline i) × (start i < e)
   pub apart : (i j : ℕ) → i < k → j < k → In P s e i → In P s e j → start i ≡ start j → i ≡ j
+
+-- a plan of the lowest k + 1 jobs is one of the lowest k
+pub plan-fewer : (P : Problem) (k s e : ℕ) (q : ℕ → ℕ) → SpanPlan P (suc k) s e q → SpanPlan P k s e q
+plan-fewer P k s e q plan =
+    record {
+      allowed = λ i l h. plan .allowed i (omega arith) h;
+      fits = λ i l h. plan .fits i (omega arith) h;
+      apart = λ i j l u h g w. plan .apart i j (omega arith) (omega arith) h g w;
+    }
+
+-- and the other way round, where job k is none of the span
+pub plan-more : (P : Problem) (k s e : ℕ) (b : ℕ → ℕ) → (In P s e k → ⊥) → SpanPlan P k s e b → SpanPlan P (suc k) s e b
+plan-more P k s e b n plan =
+    give (λ (i : ℕ) (l : i < suc k) (h : In P s e i). on-eq i k (λ w. absurd (n (rw w at h))) (λ w. omega arith))
+    (λ (lower : (i : ℕ) → i < suc k → In P s e i → i < k).
+    record {
+      allowed = λ i l h. plan .allowed i (lower i l h) h;
+      fits = λ i l h. plan .fits i (lower i l h) h;
+      apart = λ i j l u h g w. plan .apart i j (lower i l h) (lower j u g) h g w;
+    })
 
 -- whether a job below k of the span starts at t
 unfoldable pub occupied : Problem → ℕ → ℕ → ℕ → (ℕ → ℕ) → ℕ → Bool

@@ -1,13 +1,12 @@
 -- The plan read back is a plan of the span, costs the span's value, and is at least as late as every other of that cost. Assumes nothing.
 use Prim.Native.Nat.{ℕ, zero, suc, _≤_, _<_}
-use mathlib.Core.Path.{_≡_, sym, _∙_, fun-ext}
+use mathlib.Core.Path.{sym, _∙_, fun-ext}
 use native.Mathlib.Omega.{arith}
-use Rattle.day.proofs.Cases.{on-eq, give}
+use Rattle.day.proofs.Cases.{give}
 use Rattle.rule.specs.Span.{Problem, value, split, read-back}
-use Rattle.rule.proofs.Value.{In, on-in-span, value-zero, value-out, sides-is, split-found, LatestBest, read-back-out, read-back-last, read-back-left, read-back-right}
-use Rattle.rule.proofs.Occupied.{SpanPlan, cost-out, cost-zero}
+use Rattle.rule.proofs.Value.{In, on-in-span, value-zero, value-out, sides-is, split-found, read-back-out, read-back-last, read-back-left, read-back-right}
+use Rattle.rule.proofs.Occupied.{plan-fewer, plan-more, cost-out, cost-zero}
 use Rattle.rule.proofs.Swap.{ByDeadline}
-use Rattle.rule.proofs.LowerBound.{plan-fewer}
 use Rattle.rule.proofs.Late.{same, late-more}
 use Rattle.rule.proofs.Assemble.{SpanBest, assembled-best}
 
@@ -23,21 +22,10 @@ best-of-none P s e b l =
       latest = λ q p c. same (λ i h. absurd (omega arith));
     }
 
--- job k is none of the span
-plan-out : (P : Problem) (k s e : ℕ) (b : ℕ → ℕ) → (In P s e k → ⊥) → SpanPlan P k s e b → SpanPlan P (suc k) s e b
-plan-out P k s e b n plan =
-    give (λ (i : ℕ) (l : i < suc k) (h : In P s e i). on-eq i k (λ w. absurd (n (rw w at h))) (λ w. omega arith))
-    (λ (lower : (i : ℕ) → i < suc k → In P s e i → i < k).
-    record {
-      allowed = λ i l h. plan .allowed i (lower i l h) h;
-      fits = λ i l h. plan .fits i (lower i l h) h;
-      apart = λ i j l u h g w. plan .apart i j (lower i l h) (lower j u g) h g w;
-    })
-
 best-out : (P : Problem) (k s e : ℕ) (b : ℕ → ℕ) → s ≤ e → (In P s e k → ⊥) → SpanBest P k s e b → SpanBest P (suc k) s e b
 best-out P k s e b l n best =
     record {
-      plan = plan-out P k s e b n (best .plan);
+      plan = plan-more P k s e b n (best .plan);
       costs = omega (arith, cost-out P k s e b l n, value-out P k s e n, best .costs);
       latest = λ q p c.
           late-more P k s e b q (λ h. absurd (n h))

@@ -1,14 +1,14 @@
 -- The laws of the recursion and of the plan read back, one for each clause, and what they depend on. Assumes nothing.
 use Prim.Native.Nat.{ℕ, zero, suc, _+_, _≤_, _<_}
 use mathlib.Core.Path.{_≡_, refl, sym, _∙_, ap}
-use mathlib.Core.Bool.{Bool, true, false, cond, _&&_}
+use mathlib.Core.Bool.{true, false, _&&_}
 use native.Mathlib.Omega.{arith}
 use lib.Dec.{ltb, leb, eqb}
 use borrow.Author.Tests.{ltb-true, leb-true, eqb-true, eqb-false, lt-ltb, le-ltb, le-leb, eq-eqb, ne-eqb}
 use Rattle.day.proofs.Cases.{on, on-eq, give, not-both, and-left, and-right, and-intro}
 use Rattle.rule.specs.Extreme.{least, latest}
 use Rattle.rule.specs.Span.{Problem, in-span, clear, may-split, value-by, value, sides, best-split, split, read-back}
-use Rattle.rule.proofs.Extreme.{least-le, least-none-bound, least-found, least-cong, Attained, Latest, latest-is, latest-cong}
+use Rattle.rule.proofs.Extreme.{least-le, least-none-bound, least-found, least-cong, Latest, latest-is, latest-cong}
 
 -- job k is released at s or later and before e
 abbrev pub In : Problem → ℕ → ℕ → ℕ → Type 0
