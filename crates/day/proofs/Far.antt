@@ -1,5 +1,5 @@
 -- The cost law: between the two far points a day with a job costs its cost and two wakes, one without costs one. Assumes nothing.
-use Prim.Native.Nat.{ℕ, zero, suc, _+_, _-_, _*_, _≤_, _<_}
+use Prim.Native.Nat.{ℕ, zero, suc, _+_, _-_, _≤_, _<_}
 use mathlib.Core.Path.{_≡_, refl, _∙_, ap}
 use mathlib.Core.Bool.{Bool, true, false}
 use native.Mathlib.Omega.{arith}
@@ -13,7 +13,6 @@ use Rattle.day.proofs.Cases.{on, on-eq, not-both, or-right}
 use Rattle.day.proofs.Span.{walk, span, walk-zero, walk-full, walk-empty, span-empty}
 use Rattle.day.proofs.Plan.{taken-intro, taken-false}
 use Rattle.day.proofs.Gap.{total-none, total-ended, gaps-since-none, gaps-since-full, gaps-since-empty, gaps-full, gaps-empty}
-use Rattle.day.proofs.Bound.{cost-at-most-slots, cost-at-most-wakes}
 
 pub far-price-start : (day : Day) (e : ℕ) → far-price day 0 e ≡ day .power .wake
 unfolding far-price
@@ -126,22 +125,3 @@ cost-far day n p some inside =
 pub cost-far-none : (day : Day) (p : Plan)
     → span (far-price day) (from-one (taken 0 p)) 0 (day .slots + 2) ≡ day .power .wake
 cost-far-none day p = far-none day (taken 0 p) (λ t. taken-false 0 p t (λ w. omega arith))
-
--- at most two wakes and the slots
-pub far-at-most-slots : (day : Day) (n : ℕ) (p : Plan) → ((i : ℕ) → i < n → p i < day .slots)
-    → span (far-price day) (from-one (taken n p)) 0 (day .slots + 2) ≤ day .power .wake + day .power .wake + day .slots
-far-at-most-slots day zero p inside = omega (arith, cost-far-none day p)
-far-at-most-slots day (suc n) p inside =
-    omega (arith, cost-far day (suc n) p (omega arith) inside, cost-at-most-slots day (suc n) p)
-
--- at most a wake for each row and one more
-pub far-at-most-wakes : (day : Day) (n : ℕ) (p : Plan) → ((i : ℕ) → i < n → p i < day .slots)
-    → span (far-price day) (from-one (taken n p)) 0 (day .slots + 2) ≤ (n + 1) * day .power .wake
-far-at-most-wakes day zero p inside = omega (arith, cost-far-none day p)
-far-at-most-wakes day (suc n) p inside =
-    let others : suc n - 1 ≡ n = omega arith in
-    omega (
-      arith,
-      cost-far day (suc n) p (omega arith) inside,
-      rw others at (cost-at-most-wakes day (suc n) p),
-    )
