@@ -1,6 +1,5 @@
 -- Laws of the checks that entry points share: each is a check, and what holds of a list that they accept. Assumes nothing.
-use Prim.Native.Nat.{ℕ, _≤_, _<_}
-use mathlib.Core.Path.{_≡_}
+use Prim.Native.Nat.{ℕ, _≤_}
 use mathlib.Core.List.{List}
 use mathlib.Core.Logic.{_⊎_, inl, inr, ⊎-elim}
 use native.Mathlib.Omega.{arith}
@@ -9,8 +8,6 @@ use Rattle.day.specs.declared.Answer.{Answer}
 use Rattle.day.specs.declared.Power.{Power}
 use Rattle.day.specs.declared.Day.{Day}
 use Rattle.day.specs.Windows.{Windows, windows}
-use Rattle.day.specs.Answer.{says}
-use Rattle.day.specs.Refusal.{_then_}
 use Rattle.day.specs.Check.{
   most-slots,
   most-wake,

@@ -2,6 +2,8 @@
 pub mod Cases
 pub mod Refusal
 pub mod Check
+pub mod Zero
+pub mod Numbering
 pub mod Span
 pub mod Plan
 pub mod Gap

@@ -3,6 +3,7 @@ pub mod Windows
 pub mod Plan
 pub mod Gap
 pub mod Number
+pub mod Numbering
 pub mod Best
 pub mod Far
 pub mod Change
