@@ -1,0 +1,40 @@
+-- Laws of the reader's promise: what holds of a file that it accepts. Assumes nothing.
+use Prim.Native.Nat.{ℕ, _≤_}
+use mathlib.Core.Path.{_≡_}
+use mathlib.Core.List.{List}
+use native.Mathlib.Omega.{arith}
+use lib.ListN.{length}
+use Rattle.day.specs.declared.Answer.{Answer}
+use Rattle.day.specs.Answer.{done}
+use Rattle.day.specs.Check.{most-jobs}
+use Rattle.day.proofs.Cases.{give, on-eq, on-le}
+use Rattle.dayfile.specs.Format.{distance-back, count-in, distance-in}
+use Rattle.dayfile.specs.Reader.{FileCheck}
+use Rattle.dayfile.proofs.Refusals.{passed}
+
+pub record Readable (file : List ℕ) (room : ℕ) : Type 0 where
+  pub long : 10 ≤ length file
+  pub distance : distance-in file ≡ distance-back (count-in file)
+  pub whole : distance-in file ≤ length file
+  pub enough : count-in file ≤ room
+
+pub readable : {file : List ℕ} {room : ℕ} {a : Answer} → a .code ≡ done → FileCheck file room a → Readable file room
+readable {file} {room} e p =
+    give (passed (λ h. omega arith) e p)
+    (λ long.
+    give (passed (λ h. omega arith) e (long .1))
+    (λ mark.
+    give (passed (λ h. omega arith) e (mark .1))
+    (λ count.
+    give (passed (λ h. omega arith) e (count .1))
+    (λ distance.
+    give (passed (λ h. omega arith) e (distance .1))
+    (λ whole.
+    give (passed (λ h. omega arith) e (whole .1))
+    (λ enough.
+    record {
+      long = on-le 10 (length file) (λ h. h) (λ h. absurd (long .0 h));
+      distance = on-eq (distance-in file) (distance-back (count-in file)) (λ h. h) (λ h. absurd (distance .0 h));
+      whole = on-le (distance-in file) (length file) (λ h. h) (λ h. absurd (whole .0 h));
+      enough = on-le (count-in file) room (λ h. h) (λ h. absurd (enough .0 h));
+    }))))))

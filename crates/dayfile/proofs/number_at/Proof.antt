@@ -1,0 +1,50 @@
+-- `dayfile::number_at` meets its contract: two bytes make a 16-bit number. Assumes nothing.
+use Prim.Native.Nat.{_+_}
+use mathlib.Core.Path.{refl}
+use native.Mathlib.Omega.{arith}
+use borrow.Author.Needs.{needs}
+use Rattle.dayfile.specs.Bytes.{number-at}
+use Rattle.dayfile.proofs.number_at.Statement.{statement}
+use Rattle.dayfile.proofs.number_at.Tie as tie
+
+-- `dayfile::number_at` meets its contract: two bytes make a 16-bit number. Assumes nothing.
+
+-- `dayfile::number_at` meets its contract: two bytes make a 16-bit number. Assumes nothing.
+
+shared-slice-read-result : tie.Need-shared-slice-read-result
+shared-slice-read-result c = search needs
+
+cast-result : tie.Need-cast-result
+cast-result c = omega (arith, c .shared-slice-known .given (c .before .args .place))
+
+add-result : tie.Need-add-result
+add-result c = search needs
+
+shared-slice-read-result-2 : tie.Need-shared-slice-read-result-2
+shared-slice-read-result-2 c = search needs
+
+cast-result-2 : tie.Need-cast-result-2
+cast-result-2 c = omega (arith, c .shared-slice-known2 .given (c .before .before .args .place + 1))
+
+mul-result : tie.Need-mul-result
+mul-result c = omega (arith, c .shared-slice-known2 .given (c .before .before .args .place + 1))
+
+add-result-2 : tie.Need-add-result-2
+add-result-2 c = omega (arith, c .before .shared-slice-known .given (c .before .before .args .place), c .shared-slice-known2 .given (c .before .before .args .place + 1))
+
+returns : tie.Need-returns
+unfolding number-at
+returns c = refl
+
+pub number-at-spec : {M : Type 1} → statement M
+number-at-spec =
+    tie.close
+    (tie.spec
+    shared-slice-read-result
+    cast-result
+    add-result
+    shared-slice-read-result-2
+    cast-result-2
+    mul-result
+    add-result-2
+    returns)

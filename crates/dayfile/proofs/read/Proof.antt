@@ -1,0 +1,118 @@
+-- `dayfile::read` meets its contract. Assumes nothing.
+use Prim.Native.Nat.{min}
+use mathlib.Core.Path.{_≡_, refl}
+use native.Mathlib.Omega.{arith}
+use lib.ListN.{length}
+use borrow.Author.Needs.{needs}
+use Rattle.dayfile.proofs.Fills.{fills-as}
+use Rattle.dayfile.proofs.Reader.{Readable, readable}
+use Rattle.dayfile.proofs.read.Statement.{statement}
+use Rattle.dayfile.proofs.read.Tie as tie
+
+-- a file that was not refused is whole
+accepted : (c : tie.Else1) →
+    let start = c .before .before .before .before .before .before .before .args in
+    Readable (start .file .now) (min (length (start .releases .now)) (length (start .deadlines .now)))
+accepted c = rw (c .before .before .before .shorter .ensures) at (readable (c .if1 .left) (c .before .before .check-file .ensures))
+
+shorter-requires : tie.Need-shorter-requires
+shorter-requires c κs = search needs
+
+check-file-requires : tie.Need-check-file-requires
+check-file-requires c κs = search needs
+
+refusal-requires : tie.Need-refusal-requires
+refusal-requires c κs = search needs
+
+returns : tie.Need-returns
+returns c =
+    record {
+      answer = rw (c .refusal .ensures, ← c .before .before .before .before .shorter .ensures) (c .before .before .before .check-file .ensures);
+      accepted = λ e. absurd (c .before .if1 .taken (rw (c .refusal .ensures) at e));
+      refused = λ h. record { reading = rw (c .refusal .ensures); kept-releases = refl; kept-deadlines = refl };
+    }
+
+sub-number-at : tie.Need-sub-number-at
+sub-number-at c = omega (arith, accepted c)
+
+number-at-requires : tie.Need-number-at-requires
+number-at-requires c κs = omega (arith, accepted c)
+
+sub-number-at-2 : tie.Need-sub-number-at-2
+sub-number-at-2 c = omega (arith, accepted (c .before))
+
+number-at-requires-2 : tie.Need-number-at-requires-2
+number-at-requires-2 c κs = omega (arith, accepted (c .before))
+
+wide-requires : tie.Need-wide-requires
+wide-requires c κs = search needs
+
+sub-first : tie.Need-sub-first
+sub-first c = omega (arith, accepted (c .before .before .before))
+
+day-in-requires : tie.Need-day-in-requires
+day-in-requires c κs = omega (arith, accepted (c .before .before .before))
+
+wide-requires-2 : tie.Need-wide-requires-2
+wide-requires-2 c κs = search needs
+
+read-column-requires : tie.Need-read-column-requires
+read-column-requires c κs = omega (arith, accepted (c .before .before .before .before .before .before))
+
+add-read-column : tie.Need-add-read-column
+add-read-column c = search needs
+
+wide-requires-3 : tie.Need-wide-requires-3
+wide-requires-3 c κs = search needs
+
+read-column-requires-2 : tie.Need-read-column-requires-2
+read-column-requires-2 c κs = omega (arith, accepted (c .before .before .before .before .before .before .before .before .before .before .before))
+
+same-length : tie.Need-same-length
+same-length c = search needs
+
+same-length-2 : tie.Need-same-length-2
+same-length-2 c = search needs
+
+returns-2 : tie.Need-returns-2
+returns-2 c =
+    let again = c .before .before .before .before in
+    let numbers = again .before .before .before .before .before in
+    let known = numbers .before .before .before .before .before in
+    record {
+      answer = rw (← known .before .before .before .shorter .ensures) (known .before .before .check-file .ensures);
+      accepted = λ e.
+          record {
+            count = numbers .before .before .before .before .number-at .ensures;
+            slots = numbers .before .day-in .ensures .0;
+            wake = numbers .before .day-in .ensures .1;
+            first-releases = fills-as _ _ _ (omega (arith, numbers)) (omega (arith, numbers)) (c .before .before .before .before .before .before .before .read-column .ensures);
+            first-deadlines =
+                fills-as _ _ _ (omega (arith, again .wide3, numbers)) (omega (arith, numbers)) (c .before .before .read-column2 .ensures);
+          };
+      refused = λ h. absurd (h (known .if1 .left));
+    }
+
+pub read-spec : {M : Type 1} → statement M
+read-spec =
+    tie.close
+    (tie.spec
+    shorter-requires
+    check-file-requires
+    refusal-requires
+    returns
+    sub-number-at
+    number-at-requires
+    sub-number-at-2
+    number-at-requires-2
+    wide-requires
+    sub-first
+    day-in-requires
+    wide-requires-2
+    read-column-requires
+    add-read-column
+    wide-requires-3
+    read-column-requires-2
+    same-length
+    same-length-2
+    returns-2)

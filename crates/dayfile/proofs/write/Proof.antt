@@ -1,0 +1,65 @@
+-- `dayfile::write` meets its contract. Assumes nothing.
+use mathlib.Core.Path.{_≡_, refl}
+use native.Mathlib.Omega.{arith}
+use lib.ListN.{length}
+use borrow.Author.Needs.{needs}
+use Rattle.dayfile.specs.Format.{rows-and-trailer}
+use Rattle.dayfile.proofs.Format.{length-rows}
+use Rattle.dayfile.proofs.Stores.{stored-more}
+use Rattle.dayfile.proofs.Writer.{Writable, writable}
+use Rattle.dayfile.proofs.write.Statement.{statement}
+use Rattle.dayfile.proofs.write.Tie as tie
+
+-- a buffer that was not refused has the room
+accepted : (c : tie.Else1) →
+    let start = c .before .before .before .before .before .before .args in
+    Writable (start .notes) (length (start .releases .now)) (length (start .file .now))
+accepted c = writable (c .if1 .left) (c .before .before .check-room .ensures)
+
+check-room-requires : tie.Need-check-room-requires
+check-room-requires c κs = search needs
+
+returns : tie.Need-returns
+returns c = record { answer = c .before .before .check-room .ensures; accepted = λ e. absurd (c .if1 .taken e); refused = λ h. refl }
+
+write-rows-requires : tie.Need-write-rows-requires
+write-rows-requires c κs = omega (arith, accepted (c .before))
+
+cast-write-trailer : tie.Need-cast-write-trailer
+cast-write-trailer c = omega (arith, accepted (c .before .before .before .before))
+
+mul-write-trailer : tie.Need-mul-write-trailer
+mul-write-trailer c = search needs
+
+add-write-trailer : tie.Need-add-write-trailer
+add-write-trailer c = omega (arith, accepted (c .before .before .before .before .before))
+
+write-trailer-requires : tie.Need-write-trailer-requires
+write-trailer-requires c κs = omega (arith, accepted (c .before .before .before .before .before))
+
+same-length : tie.Need-same-length
+same-length c = search needs
+
+returns-2 : tie.Need-returns-2
+unfolding rows-and-trailer
+returns-2 c =
+    let start = c .before .before .before .before .before .before .before .before in
+    record {
+      answer = start .before .before .check-room .ensures;
+      accepted = λ e. stored-more (omega (arith, accepted start)) (c .before .before .before .before .before .before .write-rows .ensures) (rw length-rows) (c .before .before .write-trailer .ensures);
+      refused = λ h. absurd (h (start .if1 .left));
+    }
+
+pub write-spec : {M : Type 1} → statement M
+write-spec =
+    tie.close
+    (tie.spec
+    check-room-requires
+    returns
+    write-rows-requires
+    cast-write-trailer
+    mul-write-trailer
+    add-write-trailer
+    write-trailer-requires
+    same-length
+    returns-2)

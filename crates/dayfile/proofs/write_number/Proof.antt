@@ -1,0 +1,45 @@
+-- `dayfile::write_number` meets its contract. Assumes nothing.
+use mathlib.Core.Path.{_≡_}
+use native.Mathlib.Omega.{arith}
+use lib.ListN.{length-set}
+use borrow.Author.Needs.{needs}
+use Rattle.dayfile.specs.Bytes.{bytes-of}
+use Rattle.dayfile.proofs.Stores.{stored-pair}
+use Rattle.dayfile.proofs.write_number.Statement.{statement}
+use Rattle.dayfile.proofs.write_number.Tie as tie
+
+-- `dayfile::write_number` meets its contract. Assumes nothing.
+
+cast-file : tie.Need-cast-file
+cast-file c = search needs
+
+slice-write-file : tie.Need-slice-write-file
+slice-write-file c = search needs
+
+cast-file-2 : tie.Need-cast-file-2
+cast-file-2 c = search needs
+
+add-file : tie.Need-add-file
+add-file c = search needs
+
+slice-write-file-2 : tie.Need-slice-write-file-2
+slice-write-file-2 c = simp length-set (omega arith)
+
+same-length : tie.Need-same-length
+same-length c = search needs
+
+returns : tie.Need-returns
+unfolding bytes-of
+returns c = stored-pair _ _ _ _ _ (omega arith) (omega arith)
+
+pub write-number-spec : {M : Type 1} → statement M
+write-number-spec =
+    tie.close
+    (tie.spec
+    cast-file
+    slice-write-file
+    cast-file-2
+    add-file
+    slice-write-file-2
+    same-length
+    returns)

@@ -1,0 +1,34 @@
+-- `dayfile::write_row` meets its contract. Assumes nothing.
+use mathlib.Core.Path.{_≡_, sym}
+use native.Mathlib.Omega.{arith}
+use borrow.Author.Needs.{needs}
+use Rattle.dayfile.specs.Format.{row}
+use Rattle.dayfile.proofs.Format.{length-bytes-of}
+use Rattle.dayfile.proofs.Stores.{stored-more}
+use Rattle.dayfile.proofs.write_row.Statement.{statement}
+use Rattle.dayfile.proofs.write_row.Tie as tie
+
+-- `dayfile::write_row` meets its contract. Assumes nothing.
+
+-- `dayfile::write_row` meets its contract. Assumes nothing.
+
+write-number-requires : tie.Need-write-number-requires
+write-number-requires c κs = search needs
+
+add-write-number : tie.Need-add-write-number
+add-write-number c = search needs
+
+write-number-requires-2 : tie.Need-write-number-requires-2
+write-number-requires-2 c κs = search needs
+
+same-length : tie.Need-same-length
+same-length c = search needs
+
+returns : tie.Need-returns
+unfolding row
+returns c = stored-more (omega arith) (c .before .before .before .before .before .before .write-number .ensures) (rw length-bytes-of) (c .before .before .write-number2 .ensures)
+
+pub write-row-spec : {M : Type 1} → statement M
+write-row-spec =
+    tie.close
+    (tie.spec write-number-requires add-write-number write-number-requires-2 same-length returns)
