@@ -6,7 +6,7 @@ use mathlib.Core.Logic.{_⊎_, inl, inr, ⊎-elim}
 use native.Mathlib.Omega.{arith}
 use Rattle.day.specs.declared.Answer.{Answer}
 use Rattle.day.specs.Answer.{says, done}
-use Rattle.day.specs.Refusal.{_then_, stops, goes-on, Passed, Refuses, First, RefusesRow, FirstPair, RefusesPair}
+use Rattle.day.specs.Refusal.{_then_, stops, goes-on, Passed, Refuses, First, FirstOrEnd, RefusesRow, FirstPair, RefusesPair}
 use Rattle.day.proofs.Cases.{on-le, on-eq}
 
 pub first-unique : {n : ℕ} {Fault : ℕ → Type 0} (i j : ℕ) → First n Fault i → First n Fault j → i ≡ j
@@ -40,6 +40,18 @@ first-or-none known (suc n) =
     (λ clear. inr (λ i h. on-eq i n (λ e. rw e clear) (λ e. none i (omega arith))))
     (known n))
     (first-or-none known n)
+
+-- a search that ended at a row found the row to refuse
+pub found-refused : {code n : ℕ} {Fault : ℕ → Type 0} (i : ℕ) → FirstOrEnd n Fault i → i < n
+    → RefusesRow code n Fault (says code (i + 1) 0)
+found-refused i f h =
+    record { row = i; first = record { within = h; fault = f .fault h; lowest = f .lowest }; says = refl }
+
+-- a search that came to the end found nothing to refuse
+pub end-clear : {code n : ℕ} {Fault : ℕ → Type 0} (i : ℕ) → FirstOrEnd n Fault i → i ≡ n → (b : Answer)
+    → RefusesRow code n Fault b
+    → ⊥
+end-clear i f e b r = f .lowest (r .row) (omega (arith, r .first .within)) (r .first .fault)
 
 -- a fault would be refused
 pub no-fault : {code : ℕ} {Fault : Type 0} → ((b : Answer) → Refuses code Fault b → ⊥) → Fault → ⊥
