@@ -33,3 +33,12 @@ fills-unique {n} {f} {xs} {ys} {zs} p q =
 pub fills-as : {n m : ℕ} {xs ys : List ℕ} (file : List ℕ) (place other : ℕ) → n ≡ m → place ≡ other → Fills n (column file place) xs ys
     → Fills m (column file other) xs ys
 fills-as file place other e f p = rw (← e, ← f) p
+
+-- only the first places of what they are filled from matter
+pub fills-cong : {n m : ℕ} {f g : ℕ → ℕ} {xs ys : List ℕ} → n ≡ m → ((i : ℕ) → i < m → f i ≡ g i) → Fills n f xs ys → Fills m g xs ys
+fills-cong e same p =
+    record {
+      as-long = p .as-long;
+      filled = λ i h. p .filled i (omega arith) ∙ same i h;
+      rest = λ i h. p .rest i (omega arith);
+    }

@@ -3,5 +3,8 @@ pub mod Stores
 pub mod Format
 pub mod Refusals
 pub mod Fills
+pub mod Stands
 pub mod Reader
 pub mod Writer
+pub mod ReadBack
+pub mod Unique

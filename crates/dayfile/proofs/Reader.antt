@@ -1,10 +1,11 @@
 -- Laws of the reader's promise: what holds of a file that it accepts. Assumes nothing.
 use Prim.Native.Nat.{ℕ, _≤_}
-use mathlib.Core.Path.{_≡_}
+use mathlib.Core.Path.{_≡_, _∙_, ap}
 use mathlib.Core.List.{List}
 use native.Mathlib.Omega.{arith}
 use lib.ListN.{length}
 use Rattle.day.specs.declared.Answer.{Answer}
+use Rattle.day.specs.declared.Day.{Day}
 use Rattle.day.specs.Answer.{done}
 use Rattle.day.specs.Check.{most-jobs}
 use Rattle.day.proofs.Cases.{give, on-eq, on-le}
@@ -38,3 +39,10 @@ readable {file} {room} e p =
       whole = on-le (distance-in file) (length file) (λ h. h) (λ h. absurd (whole .0 h));
       enough = on-le (count-in file) room (λ h. h) (λ h. absurd (enough .0 h));
     }))))))
+
+pub day-ext : (a b : Day) → a .slots ≡ b .slots → a .power .wake ≡ b .power .wake → a ≡ b
+day-ext a b p q =
+    ap (λ (x : ℕ). day-of x (a .power .wake)) p ∙ ap (day-of (b .slots)) q
+  where
+    day-of : ℕ → ℕ → Day
+    day-of slots wake = record { slots = slots; power = record { wake = wake } }

@@ -32,7 +32,7 @@ stored-more {place} {next} {bytes} {more} {file} {before} {after} h p q r =
     in
     record { between = r .between ∙ rw (front, back) (simp append-assoc) }
 
-stored-length : {place : ℕ} {bytes file after : List ℕ} → place + length bytes ≤ length file → Stored place bytes file after
+pub stored-length : {place : ℕ} {bytes file after : List ℕ} → place + length bytes ≤ length file → Stored place bytes file after
     → length after ≡ length file
 stored-length {place} {bytes} {file} h p =
     ap length (p .between ∙ sym (sets-eq bytes file place h)) ∙ length-sets file place bytes

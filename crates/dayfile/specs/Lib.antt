@@ -3,3 +3,4 @@ pub mod Bytes
 pub mod Format
 pub mod Reader
 pub mod Writer
+pub mod ReadBack

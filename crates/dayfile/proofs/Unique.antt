@@ -1,0 +1,74 @@
+-- Two outcomes of reading that satisfy the promise are equal, and so are two of writing. Assumes nothing.
+use mathlib.Core.Path.{_≡_, sym, _∙_, ap}
+use mathlib.Core.List.{List}
+use Prim.Native.Nat.{ℕ}
+use native.Mathlib.Omega.{arith}
+use Rattle.day.specs.declared.Answer.{Answer}
+use Rattle.day.specs.declared.Day.{Day}
+use Rattle.day.specs.Answer.{done}
+use Rattle.day.proofs.Cases.{on-eq, give}
+use Rattle.day.proofs.Refusal.{refuses-is-check, then-unique}
+use Rattle.dayfile.specs.declared.Reading.{Reading}
+use Rattle.dayfile.specs.Reader.{no-reading, FileCheck, Read}
+use Rattle.dayfile.specs.Writer.{RoomCheck, Written}
+use Rattle.dayfile.proofs.Fills.{fills-unique}
+use Rattle.dayfile.proofs.Reader.{day-ext}
+
+file-check-unique : (file : List ℕ) (room : ℕ) (a b : Answer) → FileCheck file room a → FileCheck file room b → a ≡ b
+file-check-unique file room =
+    then-unique (refuses-is-check (λ e. omega arith))
+    (then-unique (refuses-is-check (λ e. omega arith))
+    (then-unique (refuses-is-check (λ e. omega arith))
+    (then-unique (refuses-is-check (λ e. omega arith))
+    (then-unique (refuses-is-check (λ e. omega arith))
+    (then-unique (refuses-is-check (λ e. omega arith)) (λ a b p q. p ∙ sym q))))))
+
+room-check-unique : (m n room : ℕ) (a b : Answer) → RoomCheck m n room a → RoomCheck m n room b → a ≡ b
+room-check-unique m n room =
+    then-unique (refuses-is-check (λ e. omega arith))
+    (then-unique (refuses-is-check (λ e. omega arith)) (λ a b p q. p ∙ sym q))
+
+reading-ext : (r q : Reading) → r .answer ≡ q .answer → r .count ≡ q .count → r .day ≡ q .day → r ≡ q
+reading-ext r q a c d = let same : reading-of (r .answer) (r .count) (r .day) ≡ q = rw (a, c, d) in same
+  where
+    reading-of : Answer → ℕ → Day → Reading
+    reading-of answer count day = record { answer = answer; count = count; day = day }
+
+pub read-unique : {file xs ys xs-after ys-after xs-other ys-other : List ℕ} {r q : Reading} → Read file xs ys r xs-after ys-after
+    → Read file xs ys q xs-other ys-other → (r ≡ q) × (xs-after ≡ xs-other) × (ys-after ≡ ys-other)
+read-unique {file = file} {r = r} {q = q} p s =
+    give (file-check-unique file _ (r .answer) (q .answer) (p .answer) (s .answer))
+    (λ same.
+    give (ap (λ (a : Answer). a .code) same)
+    (λ code.
+    on-eq (r .answer .code) done
+    (λ e.
+    give (p .accepted e)
+    (λ u.
+    give (s .accepted (sym code ∙ e))
+    (λ v. (
+      reading-ext r q same (u .count ∙ sym (v .count)) (day-ext (r .day) (q .day) (u .slots ∙ sym (v .slots)) (u .wake ∙ sym (v .wake))),
+      fills-unique (u .first-releases) (v .first-releases),
+      fills-unique (u .first-deadlines) (v .first-deadlines),
+    ))))
+    (λ h.
+    give (p .refused h)
+    (λ u.
+    give (s .refused (λ e. h (code ∙ e)))
+    (λ v. (
+      u .reading ∙ ap no-reading same ∙ sym (v .reading),
+      u .kept-releases ∙ sym (v .kept-releases),
+      u .kept-deadlines ∙ sym (v .kept-deadlines),
+    ))))))
+
+pub written-unique : {m : ℕ} {day : Day} {releases deadlines file after other : List ℕ} {a b : Answer}
+    → Written m day releases deadlines file a after → Written m day releases deadlines file b other → (a ≡ b) × (after ≡ other)
+written-unique {a = a} {b = b} p s =
+    give (room-check-unique _ _ _ a b (p .answer) (s .answer))
+    (λ same.
+    give (ap (λ (x : Answer). x .code) same)
+    (λ code. (
+      same,
+      on-eq (a .code) done (λ e. p .accepted e .between ∙ sym (s .accepted (sym code ∙ e) .between))
+          (λ h. p .refused h ∙ sym (s .refused (λ e. h (code ∙ e)))),
+    )))
