@@ -1,0 +1,105 @@
+use Prim.Native.Nat.{ℕ, _≤_, _<_, _-_}
+use mathlib.Core.Path.{refl}
+use native.Mathlib.Omega.{arith}
+use mathlib.Core.Logic.{inl, inr, ⊎-elim}
+use borrow.Author.Count.{below-more}
+use borrow.Author.Tests.{leb-true, leb-false}
+use lib.ListN.{length}
+use Rattle.day.specs.Windows.{at, windows}
+use Rattle.day.specs.Plan.{MayStart}
+use borrow.Author.Needs.{needs}
+use Rattle.claim.proofs.judge.check_windows.Statement.{statement}
+use Rattle.claim.proofs.judge.check_windows.Tie as tie
+use Rattle.claim.proofs.judge.check_windows.Reads as reads
+use Rattle.claim.proofs.judge.check_windows.Lts as lts
+use Rattle.day.proofs.Answer.of.Reads as of-reads
+
+abbrev Inv-loop : tie.InvT-loop
+Inv-loop releases deadlines starts i₀ i = (i ≤ length releases) × ((k : ℕ) → k < i → MayStart (windows releases deadlines) k (at starts k))
+
+abbrev μ-loop : tie.MeasureT-loop
+μ-loop releases deadlines starts i₀ i = length releases - i
+
+loop-holds : tie.Need-loop-holds Inv-loop μ-loop
+loop-holds c = search needs
+
+mul-if1 : tie.Need-mul-if1 Inv-loop μ-loop
+mul-if1 c = search needs
+
+shared-slice-read-if1 : tie.Need-shared-slice-read-if1 Inv-loop μ-loop
+shared-slice-read-if1 c = search needs
+
+mul-if1-2 : tie.Need-mul-if1-2 Inv-loop μ-loop
+mul-if1-2 c = search needs
+
+shared-slice-read-if1-2 : tie.Need-shared-slice-read-if1-2 Inv-loop μ-loop
+shared-slice-read-if1-2 c = search needs
+
+mul-if2 : tie.Need-mul-if2 Inv-loop μ-loop
+mul-if2 c = search needs
+
+shared-slice-read-if2 : tie.Need-shared-slice-read-if2 Inv-loop μ-loop
+shared-slice-read-if2 c = search needs
+
+mul-if2-2 : tie.Need-mul-if2-2 Inv-loop μ-loop
+mul-if2-2 c = search needs
+
+shared-slice-read-if2-2 : tie.Need-shared-slice-read-if2-2 Inv-loop μ-loop
+shared-slice-read-if2-2 c = search needs
+
+add-t20 : tie.Need-add-t20 Inv-loop μ-loop
+add-t20 c = search needs
+
+cast-t21 : tie.Need-cast-t21 Inv-loop μ-loop
+cast-t21 c = search needs
+
+returns : tie.Need-returns Inv-loop μ-loop
+returns c =
+    inl (record {
+      row = c .before .before .before .before .loop .i;
+      first = record {
+        within = omega arith;
+        fault = λ m. ⊎-elim (λ w. omega arith) (λ w. omega (arith, leb-true)) (c .if1 .came);
+        lowest = λ j l f. f (c .before .before .before .before .loop .inv .1 j l);
+      };
+      says = refl;
+    })
+
+add-i : tie.Need-add-i Inv-loop μ-loop
+add-i c = search needs
+
+loop-less : tie.Need-loop-less Inv-loop μ-loop
+loop-less c = search needs
+
+loop-again : tie.Need-loop-again Inv-loop μ-loop
+loop-again c = (search needs, below-more _ _ (c .before .before .before .before .before .before .before .loop .inv .1) (omega arith, omega (arith, leb-false)))
+
+of-requires : tie.Need-of-requires Inv-loop μ-loop
+of-requires c κs = search needs
+
+returns-2 : tie.Need-returns-2 Inv-loop μ-loop
+returns-2 c = inr (λ b r. r .first .fault (c .before .before .loop .inv .1 (r .row) (omega (arith, r .first .within))), c .of .ensures)
+
+pub check-windows-spec : {M : Type 1} → statement M
+check-windows-spec =
+    tie.close
+    (tie.spec
+    Inv-loop
+    μ-loop
+    loop-holds
+    mul-if1
+    shared-slice-read-if1
+    mul-if1-2
+    shared-slice-read-if1-2
+    mul-if2
+    shared-slice-read-if2
+    mul-if2-2
+    shared-slice-read-if2-2
+    add-t20
+    cast-t21
+    returns
+    add-i
+    loop-less
+    loop-again
+    of-requires
+    returns-2)

@@ -1,0 +1,76 @@
+use Prim.Native.Nat.{ℕ, _≤_, _<_, _-_}
+use native.Mathlib.Omega.{arith}
+use Rattle.day.specs.Windows.{at}
+use Rattle.claim.specs.Rows.{RowsBySlot}
+use Rattle.claim.proofs.Rows.{rows-none, rows-next}
+use mathlib.Core.Path.{_≡_}
+use borrow.Author.Needs.{needs}
+use Rattle.claim.proofs.judge.rows_by_slot.Statement.{statement}
+use Rattle.claim.proofs.judge.rows_by_slot.Tie as tie
+use Rattle.claim.proofs.judge.rows_by_slot.Reads as reads
+use Rattle.claim.proofs.judge.rows_by_slot.Lts as lts
+use Rattle.claim.proofs.judge.wide.Reads as wide-reads
+
+abbrev Inv-loop : tie.InvT-loop
+Inv-loop starts count rows₀ i₀ rows i = (i ≤ count) × RowsBySlot i (at starts) rows
+
+abbrev μ-loop : tie.MeasureT-loop
+μ-loop starts count rows₀ i₀ rows i = count - i
+
+loop-holds : tie.Need-loop-holds Inv-loop μ-loop
+loop-holds c = (search needs, rows-none _)
+
+add-rows : tie.Need-add-rows Inv-loop μ-loop
+add-rows c = search needs
+
+cast-rows : tie.Need-cast-rows Inv-loop μ-loop
+cast-rows c = search needs
+
+mul-wide : tie.Need-mul-wide Inv-loop μ-loop
+mul-wide c = search needs
+
+shared-slice-read-wide : tie.Need-shared-slice-read-wide Inv-loop μ-loop
+shared-slice-read-wide c = search needs
+
+wide-requires : tie.Need-wide-requires Inv-loop μ-loop
+wide-requires c κs = search needs
+
+mul-rows : tie.Need-mul-rows Inv-loop μ-loop
+mul-rows c = omega (arith, c .wide .ensures, c .before .before .before .before .before .pre .1 .1 _ (c .before .before .loop-test .taken))
+
+array-write-rows : tie.Need-array-write-rows Inv-loop μ-loop
+array-write-rows c = omega (arith, c .wide .ensures, c .before .before .before .before .before .pre .1 .1 _ (c .before .before .loop-test .taken))
+
+add-i : tie.Need-add-i Inv-loop μ-loop
+add-i c = search needs
+
+loop-less : tie.Need-loop-less Inv-loop μ-loop
+loop-less c = search needs
+
+loop-again : tie.Need-loop-again Inv-loop μ-loop
+loop-again c = (
+  search needs,
+  rows-next _ _ _ _ (c .wide .ensures) (c .before .before .before .before .before .pre .1 .1 _ (c .before .before .loop-test .taken)) (c .before .before .before .loop .inv .1),
+)
+
+returns : tie.Need-returns Inv-loop μ-loop
+returns c = let e : c .before .loop .i ≡ c .before .before .before .args .count = omega arith in rw e at (c .before .loop .inv .1)
+
+pub rows-by-slot-spec : {M : Type 1} → statement M
+rows-by-slot-spec =
+    tie.close
+    (tie.spec
+    Inv-loop
+    μ-loop
+    loop-holds
+    add-rows
+    cast-rows
+    mul-wide
+    shared-slice-read-wide
+    wide-requires
+    mul-rows
+    array-write-rows
+    add-i
+    loop-less
+    loop-again
+    returns)

@@ -1,0 +1,47 @@
+-- A claimed plan: how it is judged, and what pricing it answers.
+use Prim.Native.Nat.{ℕ, _<_}
+use mathlib.Core.Path.{_≡_}
+use mathlib.Core.List.{List}
+use lib.ListN.{length}
+use Rattle.day.specs.declared.Answer.{Answer}
+use Rattle.day.specs.declared.Day.{Day}
+use Rattle.day.specs.Windows.{Windows, at}
+use Rattle.day.specs.Plan.{MayStart}
+use Rattle.day.specs.Gap.{cost}
+use Rattle.day.specs.Answer.{says, done, few-starts, outside-window, same-start}
+use Rattle.day.specs.Refusal.{_then_, Refuses, RefusesRow, RefusesPair}
+use Rattle.day.specs.Check.{ListCheck}
+
+-- fewer claimed starts than jobs
+abbrev pub LengthCheck : Windows → List ℕ → Answer → Type 0
+LengthCheck w starts = Refuses few-starts (length starts < w .count)
+
+-- the claimed start of a row is outside its window
+abbrev pub Outside : Windows → List ℕ → ℕ → Type 0
+Outside w starts i = MayStart w i (at starts i) → ⊥
+
+abbrev pub WindowsCheck : Windows → List ℕ → Answer → Type 0
+WindowsCheck w starts = RefusesRow outside-window (w .count) (Outside w starts)
+
+-- two rows are claimed to start together
+abbrev pub Together : List ℕ → ℕ → ℕ → Type 0
+Together starts i j = at starts i ≡ at starts j
+
+abbrev pub ApartCheck : ℕ → List ℕ → Answer → Type 0
+ApartCheck n starts = RefusesPair same-start n (Together starts)
+
+-- codes 5, 14 and 15, of a list that has passed 1 to 4
+abbrev pub StartsCheck : Windows → List ℕ → (Answer → Type 0) → Answer → Type 0
+StartsCheck w starts Next = LengthCheck w starts then WindowsCheck w starts then ApartCheck (w .count) starts then Next
+
+-- how pricing, ledger and slot record judge a claimed plan: codes 1 to 5, 14 over all rows, then 15
+abbrev pub ClaimCheck : Day → Windows → List ℕ → (Answer → Type 0) → Answer → Type 0
+ClaimCheck day w starts Next = ListCheck day w (StartsCheck w starts Next)
+
+-- the cost of the claimed plan
+abbrev pub Costs : Day → Windows → List ℕ → Answer → Type 0
+Costs day w starts a = a ≡ says done (cost day (w .count) (at starts)) 0
+
+-- what pricing a claimed plan answers
+abbrev pub Priced : Day → Windows → List ℕ → Answer → Type 0
+Priced day w starts = ClaimCheck day w starts (Costs day w starts)
