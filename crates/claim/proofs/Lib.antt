@@ -1,4 +1,6 @@
 -- The laws of the definitions in specs/.
 pub mod Asleep
+pub mod Claim
 pub mod Pair
 pub mod Rows
+pub mod Walk

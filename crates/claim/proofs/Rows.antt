@@ -1,17 +1,19 @@
 -- Laws of the row in a slot. Assumes nothing.
-use Prim.Native.Nat.{ℕ, zero, suc, _+_, _<_}
+use Prim.Native.Nat.{ℕ, zero, suc, _+_, _≤_, _<_}
 use mathlib.Core.Path.{_≡_, refl, sym, _∙_}
+use mathlib.Core.Bool.{true, false, not}
 use mathlib.Core.List.{List}
 use native.Mathlib.Omega.{arith}
 use native.Mathlib.Numerals.{add-one}
-use lib.ListN.{set, length-set, replicate, length-replicate, getD-replicate}
-use lib.Seq.{getD-set-same, getD-set-other}
+use lib.Dec.{eqb, eqb·suc-zero}
+use lib.ListN.{length, take, set, length-set, replicate, length-replicate, getD-replicate}
+use lib.Seq.{getD-set-same, getD-set-other, getD-take, length-take-le}
 use borrow.Author.Tests.{eq-eqb, ne-eqb}
 use Rattle.day.specs.Windows.{at}
-use Rattle.day.specs.Plan.{Plan}
+use Rattle.day.specs.Plan.{Plan, taken}
 use Rattle.day.specs.Check.{most-slots}
 use Rattle.day.proofs.Cases.{on-eq}
-use Rattle.claim.specs.Rows.{row-at, RowsBySlot}
+use Rattle.claim.specs.Rows.{row-at, RowsBySlot, holds-job}
 
 pub row-at-none : (start : Plan) (t : ℕ) → row-at 0 start t ≡ 0
 unfolding row-at
@@ -45,3 +47,28 @@ rows-none start =
       long = length-replicate {A = ℕ} most-slots 0;
       each = λ t l. getD-replicate {A = ℕ} most-slots t 0 0 l ∙ sym (row-at-none start t);
     }
+
+pub holds-job-true : (rows : List ℕ) (t : ℕ) → (at rows t ≡ 0 → ⊥) → holds-job rows t ≡ true
+unfolding holds-job
+holds-job-true rows t h = rw (ne-eqb (at rows t) 0 h)
+
+pub holds-job-false : (rows : List ℕ) (t : ℕ) → at rows t ≡ 0 → holds-job rows t ≡ false
+unfolding holds-job
+holds-job-false rows t h = rw (eq-eqb (at rows t) 0 h)
+
+-- a slot holds a job exactly if one of the rows takes it
+row-at-taken : (n : ℕ) (start : Plan) (t : ℕ) → not (eqb (row-at n start t) 0) ≡ taken n start t
+unfolding row-at taken
+row-at-taken zero start t = refl
+row-at-taken (suc n) start t =
+    on-eq (start n) t (λ e. rw (eq-eqb (start n) t e, eqb·suc-zero n)) (λ e. rw (ne-eqb (start n) t e) (row-at-taken n start t))
+
+pub holds-taken : {n : ℕ} {start : Plan} {rows : List ℕ} → RowsBySlot n start rows → (m t : ℕ) → m ≤ most-slots → t < m
+    → holds-job (take m rows) t ≡ taken n start t
+unfolding holds-job
+holds-taken {n} {start} {rows} r m t within h =
+    rw (getD-take m rows t 0 h, r .each t (omega arith)) (row-at-taken n start t)
+
+-- the rows of a day's slots are as many as the slots
+pub rows-cut : {n : ℕ} {start : Plan} {rows : List ℕ} → RowsBySlot n start rows → (m : ℕ) → m ≤ most-slots → length (take m rows) ≡ m
+rows-cut {n} {start} {rows} r m within = length-take-le m rows (omega (arith, r .long))

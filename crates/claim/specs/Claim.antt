@@ -1,16 +1,21 @@
 -- A claimed plan: how it is judged, and what pricing it answers.
-use Prim.Native.Nat.{ℕ, _<_}
+use Prim.Native.Nat.{ℕ, _≤_, _<_}
 use mathlib.Core.Path.{_≡_}
 use mathlib.Core.List.{List}
 use lib.ListN.{length}
 use Rattle.day.specs.declared.Answer.{Answer}
 use Rattle.day.specs.declared.Day.{Day}
 use Rattle.day.specs.Windows.{Windows, at}
-use Rattle.day.specs.Plan.{MayStart}
+use Rattle.day.specs.Plan.{MayStart, Proper}
 use Rattle.day.specs.Gap.{cost}
 use Rattle.day.specs.Answer.{says, done, few-starts, outside-window, same-start}
 use Rattle.day.specs.Refusal.{_then_, Refuses, RefusesRow, RefusesPair}
 use Rattle.day.specs.Check.{ListCheck}
+
+-- a claimed plan that is proper, with a start for each job
+pub record Fit (w : Windows) (starts : List ℕ) : Type 0 where
+  pub long : w .count ≤ length starts
+  pub proper : Proper w (at starts)
 
 -- fewer claimed starts than jobs
 abbrev pub LengthCheck : Windows → List ℕ → Answer → Type 0
@@ -30,13 +35,13 @@ Together starts i j = at starts i ≡ at starts j
 abbrev pub ApartCheck : ℕ → List ℕ → Answer → Type 0
 ApartCheck n starts = RefusesPair same-start n (Together starts)
 
--- codes 5, 14 and 15, of a list that has passed 1 to 4
-abbrev pub StartsCheck : Windows → List ℕ → (Answer → Type 0) → Answer → Type 0
-StartsCheck w starts Next = LengthCheck w starts then WindowsCheck w starts then ApartCheck (w .count) starts then Next
+-- codes 5, 14 and 15
+abbrev pub StartsCheck : Windows → List ℕ → Answer → Type 0
+StartsCheck w starts = LengthCheck w starts then WindowsCheck w starts then ApartCheck (w .count) starts
 
 -- how pricing, ledger and slot record judge a claimed plan: codes 1 to 5, 14 over all rows, then 15
-abbrev pub ClaimCheck : Day → Windows → List ℕ → (Answer → Type 0) → Answer → Type 0
-ClaimCheck day w starts Next = ListCheck day w (StartsCheck w starts Next)
+abbrev pub ClaimCheck : Day → Windows → List ℕ → Answer → Type 0
+ClaimCheck day w starts = ListCheck day w then StartsCheck w starts
 
 -- the cost of the claimed plan
 abbrev pub Costs : Day → Windows → List ℕ → Answer → Type 0
@@ -44,4 +49,4 @@ Costs day w starts a = a ≡ says done (cost day (w .count) (at starts)) 0
 
 -- what pricing a claimed plan answers
 abbrev pub Priced : Day → Windows → List ℕ → Answer → Type 0
-Priced day w starts = ClaimCheck day w starts (Costs day w starts)
+Priced day w starts = ClaimCheck day w starts then Costs day w starts

@@ -1,13 +1,17 @@
 -- Which row stands in a slot.
 use Prim.Native.Nat.{ℕ, zero, suc, _<_}
 use mathlib.Core.Path.{_≡_}
-use mathlib.Core.Bool.{cond}
+use mathlib.Core.Bool.{Bool, true, cond, not}
 use mathlib.Core.List.{List}
 use lib.Dec.{eqb}
 use lib.ListN.{length}
-use Rattle.day.specs.Windows.{at}
+use Rattle.day.specs.declared.Answer.{Answer}
+use Rattle.day.specs.Windows.{Windows, at}
 use Rattle.day.specs.Plan.{Plan}
+use Rattle.day.specs.Answer.{done}
+use Rattle.day.specs.Refusal.{_then_, Passed}
 use Rattle.day.specs.Check.{most-slots}
+use Rattle.claim.specs.declared.Claimed.{Claimed}
 
 -- the row, counted from 1, of the first n that starts at slot t; 0 where none does, the last where several do
 unfoldable pub row-at : ℕ → Plan → ℕ → ℕ
@@ -18,3 +22,16 @@ row-at (suc n) start t = cond (eqb (start n) t) (suc n) (row-at n start t)
 pub record RowsBySlot (n : ℕ) (start : Plan) (rows : List ℕ) : Type 0 where
   pub long : length rows ≡ most-slots
   pub each : (t : ℕ) → t < most-slots → at rows t ≡ row-at n start t
+
+-- by such a list, whether a slot holds a job
+unfoldable pub holds-job : List ℕ → ℕ → Bool
+holds-job rows t = not (eqb (at rows t) 0)
+
+abbrev pub HoldsJob : List ℕ → ℕ → Type 0
+HoldsJob rows t = holds-job rows t ≡ true
+
+-- a claimed plan, judged by a check: what it answers, and which row stands in each slot; under a refusal none does
+pub record Judged (Check : Answer → Type 0) (w : Windows) (starts : List ℕ) (claimed : Claimed) : Type 0 where
+  pub answer : (Check then Passed) (claimed .answer)
+  pub accepted : claimed .answer .code ≡ done → RowsBySlot (w .count) (at starts) (claimed .rows)
+  pub refused : (claimed .answer .code ≡ done → ⊥) → RowsBySlot 0 (at starts) (claimed .rows)

@@ -1,30 +1,28 @@
-use Prim.Native.Nat.{ℕ, _≤_, _<_, _-_}
+-- `claim::check::check_apart` meets its contract. Assumes nothing.
+use Prim.Native.Nat.{_≤_, _<_, _-_}
 use mathlib.Core.Path.{_≡_, refl}
-use mathlib.Core.Logic.{inl, inr}
 use native.Mathlib.Omega.{arith}
+use borrow.Author.Needs.{needs}
+use Rattle.day.specs.Refusal.{stops, goes-on}
 use Rattle.day.specs.Answer.{says, done}
 use Rattle.claim.specs.Claim.{Together}
 use Rattle.claim.proofs.Pair.{ClearBelow, AloneBelow, clear-next, alone-next}
-use borrow.Author.Needs.{needs}
-use Rattle.claim.proofs.judge.check_apart.Statement.{statement}
-use Rattle.claim.proofs.judge.check_apart.Tie as tie
-use Rattle.claim.proofs.judge.check_apart.Reads as reads
-use Rattle.claim.proofs.judge.check_apart.Lts as lts
-use Rattle.day.proofs.Answer.of.Reads as of-reads
+use Rattle.claim.proofs.check.check_apart.Statement.{statement}
+use Rattle.claim.proofs.check.check_apart.Tie as tie
 
 abbrev Inv-loop : tie.InvT-loop
-Inv-loop starts count found₀ i j₀ found j =
-    (i < j) × ((j ≤ count) × ((found ≡ says done 0 0) × AloneBelow (Together starts) i j))
+Inv-loop starts count found₀ row partner₀ found partner =
+    (row < partner) × ((partner ≤ count) × ((found ≡ says done 0 0) × AloneBelow (Together starts) row partner))
 
 abbrev μ-loop : tie.MeasureT-loop
-μ-loop starts count found₀ i j₀ found j = count - j
+μ-loop starts count found₀ row partner₀ found partner = count - partner
 
 abbrev Inv-rows : tie.InvT-rows
-Inv-rows starts count found₀ i₀ found i =
-    (i ≤ count) × ((found ≡ says done 0 0) × ClearBelow count (Together starts) i)
+Inv-rows starts count found₀ row₀ found row =
+    (row ≤ count) × ((found ≡ says done 0 0) × ClearBelow count (Together starts) row)
 
 abbrev μ-rows : tie.MeasureT-rows
-μ-rows starts count found₀ i₀ found i = count - i
+μ-rows starts count found₀ row₀ found row = count - row
 
 of-requires : tie.Need-of-requires Inv-loop μ-loop Inv-rows μ-rows
 of-requires c κs = search needs
@@ -32,8 +30,8 @@ of-requires c κs = search needs
 rows-holds : tie.Need-rows-holds Inv-loop μ-loop Inv-rows μ-rows
 rows-holds c = search needs
 
-add-j : tie.Need-add-j Inv-loop μ-loop Inv-rows μ-rows
-add-j c = search needs
+add-partner : tie.Need-add-partner Inv-loop μ-loop Inv-rows μ-rows
+add-partner c = search needs
 
 loop-holds : tie.Need-loop-holds Inv-loop μ-loop Inv-rows μ-rows
 loop-holds c = search needs
@@ -62,8 +60,8 @@ add-t16 c = search needs
 cast-t17 : tie.Need-cast-t17 Inv-loop μ-loop Inv-rows μ-rows
 cast-t17 c = search needs
 
-add-j-2 : tie.Need-add-j-2 Inv-loop μ-loop Inv-rows μ-rows
-add-j-2 c = search needs
+add-partner-2 : tie.Need-add-partner-2 Inv-loop μ-loop Inv-rows μ-rows
+add-partner-2 c = search needs
 
 loop-less : tie.Need-loop-less Inv-loop μ-loop Inv-rows μ-rows
 loop-less c = search needs
@@ -71,8 +69,8 @@ loop-less c = search needs
 loop-again : tie.Need-loop-again Inv-loop μ-loop Inv-rows μ-rows
 loop-again c = (search needs, (search needs, (search needs, alone-next (Together (c .before .before .before .before .before .before .before .before .before .args .starts .now)) _ _ (c .before .before .before .before .loop .inv .1 .1 .1) (c .if1 .left))))
 
-add-i : tie.Need-add-i Inv-loop μ-loop Inv-rows μ-rows
-add-i c = search needs
+add-row : tie.Need-add-row Inv-loop μ-loop Inv-rows μ-rows
+add-row c = search needs
 
 rows-less : tie.Need-rows-less Inv-loop μ-loop Inv-rows μ-rows
 rows-less c = search needs
@@ -81,13 +79,13 @@ rows-again : tie.Need-rows-again Inv-loop μ-loop Inv-rows μ-rows
 rows-again c = (search needs, (search needs, clear-next _ _ _ (c .before .before .before .rows .inv .1 .1) (λ l h k. c .before .loop .inv .1 .1 .1 l h (omega arith))))
 
 returns : tie.Need-returns Inv-loop μ-loop Inv-rows μ-rows
-returns c = inr (λ b r. c .before .rows .inv .1 .1 (r .row) (r .partner) (omega (arith, r .first)) (r .first .order) (r .first .within) (r .first .fault), c .before .rows .inv .1 .0)
+returns c = goes-on (λ b r. c .before .rows .inv .1 .1 (r .row) (r .partner) (omega (arith, r .first)) (r .first .order) (r .first .within) (r .first .fault)) (c .before .rows .inv .1 .0)
 
 returns-2 : tie.Need-returns-2 Inv-loop μ-loop Inv-rows μ-rows
 returns-2 c =
-    inl (record {
-      row = c .before .before .before .before .before .before .rows .i;
-      partner = c .before .before .before .before .loop .j;
+    stops (record {
+      row = c .before .before .before .before .before .before .rows .row;
+      partner = c .before .before .before .before .loop .partner;
       first = record {
         order = search needs;
         within = search needs;
@@ -108,7 +106,7 @@ check-apart-spec =
     μ-rows
     of-requires
     rows-holds
-    add-j
+    add-partner
     loop-holds
     mul-if1
     shared-slice-read-if1
@@ -118,10 +116,10 @@ check-apart-spec =
     cast-t15
     add-t16
     cast-t17
-    add-j-2
+    add-partner-2
     loop-less
     loop-again
-    add-i
+    add-row
     rows-less
     rows-again
     returns

@@ -1,21 +1,19 @@
-use Prim.Native.Nat.{ℕ, _≤_, _<_, _-_}
+-- `claim::slots::rows_by_slot` meets its contract. Assumes nothing.
+use Prim.Native.Nat.{_≤_, _-_}
+use mathlib.Core.Path.{_≡_}
 use native.Mathlib.Omega.{arith}
+use borrow.Author.Needs.{needs}
 use Rattle.day.specs.Windows.{at}
 use Rattle.claim.specs.Rows.{RowsBySlot}
 use Rattle.claim.proofs.Rows.{rows-none, rows-next}
-use mathlib.Core.Path.{_≡_}
-use borrow.Author.Needs.{needs}
-use Rattle.claim.proofs.judge.rows_by_slot.Statement.{statement}
-use Rattle.claim.proofs.judge.rows_by_slot.Tie as tie
-use Rattle.claim.proofs.judge.rows_by_slot.Reads as reads
-use Rattle.claim.proofs.judge.rows_by_slot.Lts as lts
-use Rattle.claim.proofs.judge.wide.Reads as wide-reads
+use Rattle.claim.proofs.slots.rows_by_slot.Statement.{statement}
+use Rattle.claim.proofs.slots.rows_by_slot.Tie as tie
 
 abbrev Inv-loop : tie.InvT-loop
-Inv-loop starts count rows₀ i₀ rows i = (i ≤ count) × RowsBySlot i (at starts) rows
+Inv-loop starts count rows₀ row₀ rows row = (row ≤ count) × RowsBySlot row (at starts) rows
 
 abbrev μ-loop : tie.MeasureT-loop
-μ-loop starts count rows₀ i₀ rows i = count - i
+μ-loop starts count rows₀ row₀ rows row = count - row
 
 loop-holds : tie.Need-loop-holds Inv-loop μ-loop
 loop-holds c = (search needs, rows-none _)
@@ -36,13 +34,13 @@ wide-requires : tie.Need-wide-requires Inv-loop μ-loop
 wide-requires c κs = search needs
 
 mul-rows : tie.Need-mul-rows Inv-loop μ-loop
-mul-rows c = omega (arith, c .wide .ensures, c .before .before .before .before .before .pre .1 .1 _ (c .before .before .loop-test .taken))
+mul-rows c = omega (arith, c .wide .ensures, c .before .before .before .before .before .pre .1 _ (c .before .before .loop-test .taken))
 
 array-write-rows : tie.Need-array-write-rows Inv-loop μ-loop
-array-write-rows c = omega (arith, c .wide .ensures, c .before .before .before .before .before .pre .1 .1 _ (c .before .before .loop-test .taken))
+array-write-rows c = omega (arith, c .wide .ensures, c .before .before .before .before .before .pre .1 _ (c .before .before .loop-test .taken))
 
-add-i : tie.Need-add-i Inv-loop μ-loop
-add-i c = search needs
+add-row : tie.Need-add-row Inv-loop μ-loop
+add-row c = search needs
 
 loop-less : tie.Need-loop-less Inv-loop μ-loop
 loop-less c = search needs
@@ -50,11 +48,11 @@ loop-less c = search needs
 loop-again : tie.Need-loop-again Inv-loop μ-loop
 loop-again c = (
   search needs,
-  rows-next _ _ _ _ (c .wide .ensures) (c .before .before .before .before .before .pre .1 .1 _ (c .before .before .loop-test .taken)) (c .before .before .before .loop .inv .1),
+  rows-next _ _ _ _ (c .wide .ensures .0) (c .before .before .before .before .before .pre .1 _ (c .before .before .loop-test .taken)) (c .before .before .before .loop .inv .1),
 )
 
 returns : tie.Need-returns Inv-loop μ-loop
-returns c = let e : c .before .loop .i ≡ c .before .before .before .args .count = omega arith in rw e at (c .before .loop .inv .1)
+returns c = let e : c .before .loop .row ≡ c .before .before .before .args .count = omega arith in rw e at (c .before .loop .inv .1)
 
 pub rows-by-slot-spec : {M : Type 1} → statement M
 rows-by-slot-spec =
@@ -70,7 +68,7 @@ rows-by-slot-spec =
     wide-requires
     mul-rows
     array-write-rows
-    add-i
+    add-row
     loop-less
     loop-again
     returns)

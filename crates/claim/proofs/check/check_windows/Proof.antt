@@ -1,24 +1,24 @@
+-- `claim::check::check_windows` meets its contract. Assumes nothing.
 use Prim.Native.Nat.{ℕ, _≤_, _<_, _-_}
 use mathlib.Core.Path.{refl}
+use mathlib.Core.Logic.{⊎-elim}
 use native.Mathlib.Omega.{arith}
-use mathlib.Core.Logic.{inl, inr, ⊎-elim}
 use borrow.Author.Count.{below-more}
 use borrow.Author.Tests.{leb-true, leb-false}
+use borrow.Author.Needs.{needs}
 use lib.ListN.{length}
 use Rattle.day.specs.Windows.{at, windows}
 use Rattle.day.specs.Plan.{MayStart}
-use borrow.Author.Needs.{needs}
-use Rattle.claim.proofs.judge.check_windows.Statement.{statement}
-use Rattle.claim.proofs.judge.check_windows.Tie as tie
-use Rattle.claim.proofs.judge.check_windows.Reads as reads
-use Rattle.claim.proofs.judge.check_windows.Lts as lts
-use Rattle.day.proofs.Answer.of.Reads as of-reads
+use Rattle.day.specs.Refusal.{stops, goes-on}
+use Rattle.day.proofs.Check.{good-rows-deadlines}
+use Rattle.claim.proofs.check.check_windows.Statement.{statement}
+use Rattle.claim.proofs.check.check_windows.Tie as tie
 
 abbrev Inv-loop : tie.InvT-loop
-Inv-loop releases deadlines starts i₀ i = (i ≤ length releases) × ((k : ℕ) → k < i → MayStart (windows releases deadlines) k (at starts k))
+Inv-loop releases deadlines starts row₀ row = (row ≤ length releases) × ((k : ℕ) → k < row → MayStart (windows releases deadlines) k (at starts k))
 
 abbrev μ-loop : tie.MeasureT-loop
-μ-loop releases deadlines starts i₀ i = length releases - i
+μ-loop releases deadlines starts row₀ row = length releases - row
 
 loop-holds : tie.Need-loop-holds Inv-loop μ-loop
 loop-holds c = search needs
@@ -39,7 +39,8 @@ mul-if2 : tie.Need-mul-if2 Inv-loop μ-loop
 mul-if2 c = search needs
 
 shared-slice-read-if2 : tie.Need-shared-slice-read-if2 Inv-loop μ-loop
-shared-slice-read-if2 c = search needs
+shared-slice-read-if2 c =
+    omega (arith, good-rows-deadlines (c .before .before .before .before .before .before .before .before .before .args .releases .now) (c .before .before .before .before .before .before .before .before .before .args .deadlines .now) (c .before .before .before .before .before .before .before .before .before .pre .0))
 
 mul-if2-2 : tie.Need-mul-if2-2 Inv-loop μ-loop
 mul-if2-2 c = search needs
@@ -55,8 +56,8 @@ cast-t21 c = search needs
 
 returns : tie.Need-returns Inv-loop μ-loop
 returns c =
-    inl (record {
-      row = c .before .before .before .before .loop .i;
+    stops (record {
+      row = c .before .before .before .before .loop .row;
       first = record {
         within = omega arith;
         fault = λ m. ⊎-elim (λ w. omega arith) (λ w. omega (arith, leb-true)) (c .if1 .came);
@@ -65,8 +66,8 @@ returns c =
       says = refl;
     })
 
-add-i : tie.Need-add-i Inv-loop μ-loop
-add-i c = search needs
+add-row : tie.Need-add-row Inv-loop μ-loop
+add-row c = search needs
 
 loop-less : tie.Need-loop-less Inv-loop μ-loop
 loop-less c = search needs
@@ -78,7 +79,7 @@ of-requires : tie.Need-of-requires Inv-loop μ-loop
 of-requires c κs = search needs
 
 returns-2 : tie.Need-returns-2 Inv-loop μ-loop
-returns-2 c = inr (λ b r. r .first .fault (c .before .before .loop .inv .1 (r .row) (omega (arith, r .first .within))), c .of .ensures)
+returns-2 c = goes-on (λ b r. r .first .fault (c .before .before .loop .inv .1 (r .row) (omega (arith, r .first .within)))) (c .of .ensures)
 
 pub check-windows-spec : {M : Type 1} → statement M
 check-windows-spec =
@@ -98,7 +99,7 @@ check-windows-spec =
     add-t20
     cast-t21
     returns
-    add-i
+    add-row
     loop-less
     loop-again
     of-requires

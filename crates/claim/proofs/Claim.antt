@@ -1,0 +1,94 @@
+-- Laws of how a claimed plan is judged. Assumes nothing.
+use Prim.Native.Nat.{ℕ, _+_, _≤_, _<_}
+use mathlib.Core.Path.{_≡_, sym}
+use mathlib.Core.List.{List}
+use mathlib.Core.Logic.{_⊎_, inl, inr, ⊎-elim}
+use native.Mathlib.Omega.{arith}
+use lib.ListN.{length}
+use Rattle.day.specs.declared.Answer.{Answer}
+use Rattle.day.specs.declared.Day.{Day}
+use Rattle.day.specs.Windows.{Windows, at}
+use Rattle.day.specs.Plan.{MayStart, Proper}
+use Rattle.day.specs.Answer.{done}
+use Rattle.day.specs.Refusal.{_then_, Passed}
+use Rattle.day.specs.Check.{GoodRows, Accepted, ListCheck}
+use Rattle.day.proofs.Cases.{on-le, on-eq}
+use Rattle.day.proofs.Refusal.{IsCheck, refuses-is-check, refuses-row-is-check, refuses-pair-is-check, then-is-check, then-clear, passed-clear, clear-first, clear-next, no-fault, no-row-at-fault}
+use Rattle.day.proofs.Check.{list-is-check, clear-accepted}
+use Rattle.claim.specs.Claim.{Fit, Together, LengthCheck, WindowsCheck, ApartCheck, StartsCheck, ClaimCheck}
+use Rattle.claim.proofs.Pair.{no-pair-at-fault}
+
+pub length-is-check : (w : Windows) (starts : List ℕ) → IsCheck (LengthCheck w starts)
+length-is-check w starts = refuses-is-check (λ e. omega arith)
+
+pub windows-is-check : (w : Windows) (starts : List ℕ) → IsCheck (WindowsCheck w starts)
+windows-is-check w starts = refuses-row-is-check (λ e. omega arith)
+
+pub apart-is-check : (n : ℕ) (starts : List ℕ) → IsCheck (ApartCheck n starts)
+apart-is-check n starts = refuses-pair-is-check (λ e. omega arith)
+
+pub starts-is-check : (w : Windows) (starts : List ℕ) → IsCheck (StartsCheck w starts)
+starts-is-check w starts = then-is-check (length-is-check w starts) (then-is-check (windows-is-check w starts) (apart-is-check (w .count) starts))
+
+pub claim-is-check : (day : Day) (w : Windows) (starts : List ℕ) → IsCheck (ClaimCheck day w starts)
+claim-is-check day w starts = then-is-check list-is-check (starts-is-check w starts)
+
+may-start-known : (w : Windows) (i t : ℕ) → MayStart w i t ⊎ (MayStart w i t → ⊥)
+may-start-known w i t =
+    on-le (w .release i) t
+    (λ h. on-le (t + 1) (w .deadline i) (λ l. inl (h, l)) (λ l. inr (λ m. omega (arith, m .1))))
+    (λ h. inr (λ m. omega (arith, m .0)))
+
+-- a plan with nothing to refuse is fit
+pub clear-fit : (w : Windows) (starts : List ℕ) → ((b : Answer) → StartsCheck w starts b → ⊥) → Fit w starts
+clear-fit w starts clear =
+    record {
+      long = on-le (w .count) (length starts) (λ h. h) (λ h. absurd (no-fault (clear-first clear) h));
+      proper = record { inside = inside; apart = apart };
+    }
+  where
+    inside : (i : ℕ) → i < w .count → MayStart w i (at starts i)
+    inside i h =
+        ⊎-elim (λ m. m)
+        (λ m.
+        absurd
+        (no-row-at-fault (λ j. ⊎-elim (λ k. inr (λ n. n k)) (λ k. inl k) (may-start-known w j (at starts j))) (clear-first (clear-next clear)) i
+        h m))
+        (may-start-known w i (at starts i))
+
+    none-together : (i j : ℕ) → i < j → j < w .count → Together starts i j → ⊥
+    none-together = no-pair-at-fault (λ i j. on-eq (at starts i) (at starts j) (λ e. inl e) (λ e. inr e)) (w .count) (clear-next (clear-next clear))
+
+    apart : (i j : ℕ) → i < w .count → j < w .count → at starts i ≡ at starts j → i ≡ j
+    apart i j h l e =
+        on-eq i j (λ q. q)
+        (λ q. on-le i j (λ o. absurd (none-together i j (omega arith) l e)) (λ o. absurd (none-together j i o h (sym e))))
+
+-- and of a fit plan nothing is refused
+pub fit-clear : (w : Windows) (starts : List ℕ) → Fit w starts → (b : Answer) → StartsCheck w starts b → ⊥
+fit-clear w starts fit =
+    then-clear (λ b r. omega (arith, r .fault, fit .long))
+    (then-clear (λ b r. r .first .fault (fit .proper .inside (r .row) (r .first .within)))
+    (λ b r.
+    omega (
+      arith,
+      r .first .order,
+      fit .proper .apart (r .row) (r .partner) (omega (arith, r .first .order, r .first .within)) (r .first .within) (r .first .fault),
+    )))
+
+-- a plan that was judged and not refused is fit
+pub passed-fit : (w : Windows) (starts : List ℕ) (a : Answer) → (StartsCheck w starts then Passed) a → a .code ≡ done → Fit w starts
+passed-fit w starts a p e = clear-fit w starts (passed-clear (starts-is-check w starts) a p e)
+
+-- the starts of a fit plan are slots of the day
+pub fit-below : {limit slots : ℕ} {w : Windows} {starts : List ℕ} → GoodRows limit slots w → Fit w starts → (i : ℕ) → i < w .count
+    → at starts i < slots
+fit-below good fit i h = omega (arith, good .in-day i h, fit .proper .inside i h)
+
+-- rows that fit a day fit a longer one
+pub good-rows-within : {limit slots most : ℕ} {w : Windows} → slots ≤ most → GoodRows limit slots w → GoodRows limit most w
+good-rows-within h good = record { count = good .count; window = good .window; in-day = λ i l. omega (arith, good .in-day i l) }
+
+-- a list that was checked and not refused is accepted
+pub passed-accepted : {day : Day} {w : Windows} (a : Answer) → (ListCheck day w then Passed) a → a .code ≡ done → Accepted day w
+passed-accepted a p e = clear-accepted (passed-clear list-is-check a p e)

@@ -1,0 +1,131 @@
+-- The walk over the slots that prices the gaps: what is left to pay, slot by slot. Assumes nothing.
+use Prim.Native.Nat.{ℕ, zero, suc, _+_, _-_, _≤_, _<_}
+use mathlib.Core.Path.{_≡_, refl, sym, _∙_, ap}
+use mathlib.Core.Bool.{Bool, true, false}
+use mathlib.Core.List.{List}
+use native.Mathlib.Omega.{arith}
+use native.Mathlib.Numerals.{add-one}
+use lib.ListN.{length, take}
+use Rattle.day.specs.declared.Day.{Day}
+use Rattle.day.specs.Plan.{Plan, taken}
+use Rattle.day.specs.Check.{most-slots}
+use Rattle.day.specs.declared.Power.{Power}
+use Rattle.day.specs.Gap.{price, ended, gaps-since, gaps, total, cost}
+use Rattle.day.specs.Refusal.{FirstOrEnd}
+use Rattle.day.proofs.Cases.{on, on-le}
+use Rattle.day.proofs.Gap.{
+  price-at-most-length,
+  total-none,
+  total-ended,
+  gaps-since-none,
+  gaps-since-full,
+  gaps-since-empty,
+  gaps-none,
+  gaps-full,
+  gaps-empty,
+  gaps-same,
+}
+use Rattle.day.specs.Windows.{at}
+use Rattle.claim.specs.Rows.{RowsBySlot, holds-job, HoldsJob}
+use Rattle.claim.proofs.Rows.{holds-job-true, holds-job-false, holds-taken, rows-cut}
+
+-- the slots before the first job leave no gap
+gaps-skip : (full : ℕ → Bool) (k t s m : ℕ) → s ≡ t + k → ((u : ℕ) → u < s → full u ≡ false) → gaps full t (k + m) ≡ gaps full s m
+gaps-skip full zero t s m e none =
+    let here : s ≡ t = omega arith in
+    let all : 0 + m ≡ m = omega arith in
+    rw (here, all)
+gaps-skip full (suc k) t s m e none =
+    let one-more : suc k + m ≡ suc (k + m) = omega arith in
+    rw one-more (gaps-empty full t (k + m) (none t (omega arith)) ∙ gaps-skip full k (suc t) s m (omega arith) none)
+
+-- what is left to pay from slot t on, where g slots have been empty since the last job
+unfoldable pub left-to-pay : Power → List ℕ → ℕ → ℕ → ℕ
+left-to-pay power rows g t = total (price power) (gaps-since (holds-job rows) g t (length rows - t))
+
+module _ (power : Power) (rows : List ℕ) where
+  pay-job : (g t : ℕ) → t < length rows → HoldsJob rows t
+      → left-to-pay power rows g t ≡ price power g + left-to-pay power rows 0 (t + 1)
+  unfolding left-to-pay
+  pay-job g t h full =
+      let here : length rows - t ≡ suc (length rows - suc t) = omega arith in
+      rw (add-one t, here, gaps-since-full (holds-job rows) g t (length rows - suc t) full) (total-ended power g _)
+
+  pay-empty : (g t : ℕ) → t < length rows → holds-job rows t ≡ false
+      → left-to-pay power rows g t ≡ left-to-pay power rows (g + 1) (t + 1)
+  unfolding left-to-pay
+  pay-empty g t h empty =
+      let here : length rows - t ≡ suc (length rows - suc t) = omega arith in
+      rw (add-one t, add-one g, here, gaps-since-empty (holds-job rows) g t (length rows - suc t) empty)
+
+  pay-end : (g t : ℕ) → length rows ≤ t → left-to-pay power rows g t ≡ 0
+  unfolding left-to-pay
+  pay-end g t h =
+      let here : length rows - t ≡ 0 = omega arith in
+      rw (here, gaps-since-none (holds-job rows) g t) (total-none (price power))
+
+  from-first : (s m : ℕ) → (0 < m → HoldsJob rows s) → gaps-since (holds-job rows) 0 s m ≡ gaps (holds-job rows) s m
+  unfolding ended
+  from-first s zero full = gaps-since-none (holds-job rows) 0 s ∙ sym (gaps-none (holds-job rows) s)
+  from-first s (suc m) full =
+      gaps-since-full (holds-job rows) 0 s m (full (omega arith)) ∙ sym (gaps-full (holds-job rows) s m (full (omega arith)))
+
+  pay-first : (s : ℕ) → FirstOrEnd (length rows) (HoldsJob rows) s
+      → left-to-pay power rows 0 s ≡ total (price power) (gaps (holds-job rows) 0 (length rows))
+  unfolding left-to-pay
+  pay-first s first =
+      let all : length rows ≡ s + (length rows - s) = omega (arith, first .within) in
+      rw (from-first s (length rows - s) (λ h. first .fault (omega arith)))
+      (ap (total (price power))
+      (sym (ap (gaps (holds-job rows) 0) all ∙ gaps-skip (holds-job rows) s 0 s (length rows - s) (omega arith) none)))
+    where
+      none : (u : ℕ) → u < s → holds-job rows u ≡ false
+      none u h = on (holds-job rows u) (λ e. absurd (first .lowest u h e)) (λ e. e)
+
+-- what the gaps between the jobs cost
+abbrev pub whole-cost : Power → List ℕ → ℕ
+whole-cost power rows = total (price power) (gaps (holds-job rows) 0 (length rows))
+
+-- the walk stands at a slot: what was paid and what is left make the whole
+pub record Paying (power : Power) (rows : List ℕ) (cost empty slot : ℕ) : Type 0 where
+  pub within : slot ≤ length rows
+  pub small : cost + empty ≤ slot
+  pub sum : cost + left-to-pay power rows empty slot ≡ whole-cost power rows
+
+module _ {power : Power} {rows : List ℕ} where
+  pub paying-first : {s : ℕ} → FirstOrEnd (length rows) (HoldsJob rows) s → Paying power rows 0 0 s
+  paying-first {s} first =
+      record { within = first .within; small = omega arith; sum = omega (arith, pay-first power rows s first) }
+
+  pub paying-empty : {cost empty slot empty' : ℕ} → Paying power rows cost empty slot → slot < length rows → at rows slot ≡ 0
+      → empty' ≡ empty + 1 → Paying power rows cost empty' (slot + 1)
+  paying-empty {cost} {empty} {slot} p h none e =
+      rw e
+      record {
+        within = omega arith;
+        small = omega (arith, p .small);
+        sum = omega (arith, p .sum, pay-empty power rows empty slot h (holds-job-false rows slot none));
+      }
+
+  pub paying-job : {cost empty slot paid cost' empty' : ℕ} → Paying power rows cost empty slot → slot < length rows
+      → (at rows slot ≡ 0 → ⊥) → paid ≡ price power empty → cost' ≡ cost + paid → empty' ≡ 0 → Paying power rows cost' empty' (slot + 1)
+  paying-job {cost} {empty} {slot} p h some paid new none =
+      rw (new, none, paid)
+      record {
+        within = omega arith;
+        small = omega (arith, p .small, price-at-most-length power empty);
+        sum = omega (arith, p .sum, pay-job power rows empty slot h (holds-job-true rows slot some));
+      }
+
+  pub paying-end : {cost empty slot : ℕ} → Paying power rows cost empty slot → length rows ≤ slot → cost ≡ whole-cost power rows
+  paying-end {cost} {empty} {slot} p h = omega (arith, p .sum, pay-end power rows empty slot h)
+
+-- the walk over the day's slots pays what the plan costs
+pub whole-cost-day : (day : Day) {n slots : ℕ} {start : Plan} {rows : List ℕ} → slots ≡ day .slots → day .slots ≤ most-slots
+    → RowsBySlot n start rows → whole-cost (day .power) (take slots rows) ≡ cost day n start
+unfolding cost
+whole-cost-day day {n} {slots} {start} {rows} all within r =
+    rw (all, rows-cut r (day .slots) within)
+    (ap (total (price (day .power)))
+    (gaps-same (holds-job (take (day .slots) rows)) (taken n start) (day .slots) 0
+    (λ u h. holds-taken r (day .slots) u within (omega arith))))

@@ -1,0 +1,27 @@
+-- `claim::place` meets its contract. Assumes nothing.
+use borrow.Author.Needs.{needs}
+use Rattle.day.specs.Windows.{windows}
+use Rattle.day.proofs.Cases.{give}
+use Rattle.claim.proofs.Rows.{rows-none}
+use Rattle.claim.proofs.Claim.{passed-fit, fit-below}
+use Rattle.claim.proofs.place.Statement.{statement}
+use Rattle.claim.proofs.place.Tie as tie
+
+check-starts-requires : tie.Need-check-starts-requires
+check-starts-requires c κs = search needs
+
+returns : tie.Need-returns
+returns c = record { answer = c .before .before .check-starts .ensures; accepted = λ e. absurd (c .if1 .taken e); refused = λ e. rows-none _ }
+
+rows-by-slot-requires : tie.Need-rows-by-slot-requires
+rows-by-slot-requires c κs =
+    give
+    (passed-fit (windows (c .before .before .before .before .before .before .args .releases .now) (c .before .before .before .before .before .before .args .deadlines .now)) (c .before .before .before .before .before .before .args .starts .now) _ (c .before .before .check-starts .ensures)
+    (c .if1 .left))
+    (λ fit. ((c .before .before .before .before .before .before .pre .count, fit .long), fit-below (c .before .before .before .before .before .before .pre) fit))
+
+returns-2 : tie.Need-returns-2
+returns-2 c = record { answer = c .before .before .before .check-starts .ensures; accepted = λ e. c .rows-by-slot .ensures; refused = λ e. absurd (e (c .before .if1 .left)) }
+
+pub place-spec : {M : Type 1} → statement M
+place-spec = tie.close (tie.spec check-starts-requires returns rows-by-slot-requires returns-2)

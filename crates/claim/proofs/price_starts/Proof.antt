@@ -1,0 +1,65 @@
+-- `claim::price_starts` meets its contract. Assumes nothing.
+use Prim.Native.Nat.{ℕ}
+use mathlib.Core.Path.{sym, _∙_, ap}
+use native.Mathlib.Omega.{arith}
+use borrow.Author.Needs.{needs}
+use Rattle.day.specs.Answer.{says, done}
+use Rattle.day.specs.Windows.{windows}
+use Rattle.day.proofs.Refusal.{then-refused, then-passed}
+use Rattle.claim.proofs.Claim.{starts-is-check, good-rows-within}
+use Rattle.claim.proofs.Rows.{rows-cut}
+use Rattle.claim.proofs.Walk.{whole-cost-day}
+use Rattle.claim.proofs.price_starts.Statement.{statement}
+use Rattle.claim.proofs.price_starts.Tie as tie
+
+place-requires : tie.Need-place-requires
+place-requires c κs = good-rows-within (c .before .before .before .pre .slots) (c .before .before .before .pre .rows)
+
+returns : tie.Need-returns
+returns c = then-refused _ (c .before .before .before .place .ensures .answer) (c .if1 .taken)
+
+wide-requires : tie.Need-wide-requires
+wide-requires c κs = search needs
+
+array-share-prefix-rows : tie.Need-array-share-prefix-rows
+array-share-prefix-rows c =
+    omega (
+      arith,
+      c .wide .ensures,
+      c .before .before .before .before .before .before .before .before .before .pre .slots,
+      c .before .before .before .before .before .place .ensures .accepted (c .before .before .if1 .left) .long,
+    )
+
+slice-aggregate-cost : tie.Need-slice-aggregate-cost
+slice-aggregate-cost c =
+    sym
+    (rows-cut (c .before .before .before .before .before .before .place .ensures .accepted (c .before .before .before .if1 .left)) _
+    (omega (arith, c .before .wide .ensures, c .before .before .before .before .before .before .before .before .before .before .pre .slots)))
+
+cost-requires : tie.Need-cost-requires
+cost-requires c κs =
+    let long : _ = rows-cut (c .before .before .before .before .before .before .place .ensures .accepted (c .before .before .before .if1 .left)) (c .before .wide .result)
+    (omega (arith, c .before .wide .ensures, c .before .before .before .before .before .before .before .before .before .before .pre .slots))
+    in
+    omega (arith, long, c .before .wide .ensures, c .before .before .before .before .before .before .before .before .before .before .pre .slots)
+
+returns-2 : tie.Need-returns-2
+returns-2 c =
+    then-passed (starts-is-check (windows (c .before .before .before .before .before .before .before .before .before .before .before .args .releases .now) (c .before .before .before .before .before .before .before .before .before .before .before .args .deadlines .now)) (c .before .before .before .before .before .before .before .before .before .before .before .args .starts .now)) _ _
+    (c .before .before .before .before .before .before .before .place .ensures .answer) (c .before .before .before .before .if1 .left)
+    (ap (λ (x : ℕ). says done x 0)
+    (c .cost .ensures
+    ∙ whole-cost-day (c .before .before .before .before .before .before .before .before .before .before .before .args .day) (c .before .before .wide .ensures .0) (c .before .before .before .before .before .before .before .before .before .before .before .pre .slots)
+    (c .before .before .before .before .before .before .before .place .ensures .accepted (c .before .before .before .before .if1 .left))))
+
+pub price-starts-spec : {M : Type 1} → statement M
+price-starts-spec =
+    tie.close
+    (tie.spec
+    place-requires
+    returns
+    wide-requires
+    array-share-prefix-rows
+    slice-aggregate-cost
+    cost-requires
+    returns-2)

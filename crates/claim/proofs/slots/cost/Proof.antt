@@ -1,0 +1,73 @@
+-- `claim::slots::cost` meets its contract. Assumes nothing.
+use Prim.Native.Nat.{_-_}
+use mathlib.Core.Logic.{⊎-elim}
+use native.Mathlib.Omega.{arith}
+use borrow.Author.Needs.{needs}
+use lib.ListN.{length}
+use Rattle.day.proofs.Gap.{price-at-most-length}
+use Rattle.claim.proofs.Walk.{Paying, paying-first, paying-empty, paying-job, paying-end}
+use Rattle.claim.proofs.slots.cost.Statement.{statement}
+use Rattle.claim.proofs.slots.cost.Tie as tie
+
+abbrev Inv-loop : tie.InvT-loop
+Inv-loop power rows cost₀ empty₀ slot₀ cost empty slot = Paying power rows cost empty slot
+
+abbrev μ-loop : tie.MeasureT-loop
+μ-loop power rows cost₀ empty₀ slot₀ cost empty slot = length rows - slot
+
+first-job-requires : tie.Need-first-job-requires Inv-loop μ-loop
+first-job-requires c κs = search needs
+
+loop-holds : tie.Need-loop-holds Inv-loop μ-loop
+loop-holds c = paying-first (c .first-job .ensures)
+
+mul-if1 : tie.Need-mul-if1 Inv-loop μ-loop
+mul-if1 c = search needs
+
+shared-slice-read-if1 : tie.Need-shared-slice-read-if1 Inv-loop μ-loop
+shared-slice-read-if1 c = search needs
+
+add-empty : tie.Need-add-empty Inv-loop μ-loop
+add-empty c = search needs
+
+price-requires : tie.Need-price-requires Inv-loop μ-loop
+price-requires c κs = search needs
+
+add-cost : tie.Need-add-cost Inv-loop μ-loop
+add-cost c = omega (arith, c .price .ensures, price-at-most-length (c .before .before .before .before .before .before .before .args .power) (c .before .before .before .before .loop .empty))
+
+add-slot : tie.Need-add-slot Inv-loop μ-loop
+add-slot c = search needs
+
+loop-less : tie.Need-loop-less Inv-loop μ-loop
+loop-less c = search needs
+
+loop-again : tie.Need-loop-again Inv-loop μ-loop
+loop-again c =
+    ⊎-elim
+    (λ w. rw (w .1) (paying-empty (c .before .before .before .loop .inv) (c .before .before .loop-test .taken) (w .0 .taken) (w .2)))
+    (λ w.
+    paying-job (c .before .before .before .loop .inv) (c .before .before .loop-test .taken) (w .0 .left) (w .1 .ensures) (w .2)
+    (w .3))
+    (c .if1 .came)
+
+returns : tie.Need-returns Inv-loop μ-loop
+returns c = paying-end (c .before .loop .inv) (c .loop-test .left)
+
+pub cost-spec : {M : Type 1} → statement M
+cost-spec =
+    tie.close
+    (tie.spec
+    Inv-loop
+    μ-loop
+    first-job-requires
+    loop-holds
+    mul-if1
+    shared-slice-read-if1
+    add-empty
+    price-requires
+    add-cost
+    add-slot
+    loop-less
+    loop-again
+    returns)

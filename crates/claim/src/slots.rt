@@ -1,0 +1,60 @@
+// The slots of a day as a list of rows, and a walk over them.
+ghost use Prim.Native.Nat.{ℕ, _<_, _≤_};
+ghost use mathlib.Core.Path.{_≡_};
+ghost use lib.ListN.{length};
+ghost use Rattle.day.specs.Windows.{at};
+ghost use Rattle.day.specs.Refusal.{FirstOrEnd};
+ghost use Rattle.day.specs.Check.{most-jobs, most-slots};
+ghost use Rattle.day.specs.Gap.{price, gaps, total};
+ghost use Rattle.claim.specs.Rows.{RowsBySlot, HoldsJob, holds-job};
+use crate::gap;
+use day::Power;
+
+// The row, counted from 1, that starts at each slot; 0 where none does.
+pub(crate) fn rows_by_slot(starts: &[u16], count: usize) -> [u16; 96]
+    requires { ⌜ (count ≤ most-jobs) × (count ≤ length (now starts)) ⌝ }
+    requires { ⌜ ((i : ℕ) → i < count → at (now starts) i < most-slots) ⌝ }
+    ensures { λ r. ⌜ RowsBySlot count (at (now (starts .entry))) r ⌝ }
+{
+    let mut rows = [0u16; 96];
+    let mut row: usize = 0;
+    while row < count {
+        rows[day::wide(starts[row])] = (row + 1) as u16;
+        row += 1;
+    }
+    rows
+}
+
+// The first slot that holds a job; the number of slots where none does.
+pub fn first_job(rows: &[u16]) -> usize
+    ensures { λ r. ⌜ FirstOrEnd (length (now (rows .entry))) (HoldsJob (now (rows .entry))) r ⌝ }
+{
+    let mut slot: usize = 0;
+    while slot < rows.len() {
+        if rows[slot] != 0 {
+            return slot;
+        }
+        slot += 1;
+    }
+    slot
+}
+
+// What the gaps between the jobs cost.
+pub(crate) fn cost(power: Power, rows: &[u16]) -> u16
+    requires { ⌜ length (now rows) ≤ most-slots ⌝ }
+    ensures { λ r. ⌜ r ≡ total (price power) (gaps (holds-job (now (rows .entry))) 0 (length (now (rows .entry)))) ⌝ }
+{
+    let mut cost: u16 = 0;
+    let mut empty: u16 = 0;
+    let mut slot = first_job(rows);
+    while slot < rows.len() {
+        if rows[slot] == 0 {
+            empty += 1;
+        } else {
+            cost += gap::price(power, empty);
+            empty = 0;
+        }
+        slot += 1;
+    }
+    cost
+}
