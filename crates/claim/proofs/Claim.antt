@@ -1,6 +1,6 @@
 -- Laws of how a claimed plan is judged. Assumes nothing.
 use Prim.Native.Nat.{ℕ, _+_, _≤_, _<_}
-use mathlib.Core.Path.{_≡_, sym}
+use mathlib.Core.Path.{_≡_, sym, ap}
 use mathlib.Core.List.{List}
 use mathlib.Core.Logic.{_⊎_, inl, inr, ⊎-elim}
 use native.Mathlib.Omega.{arith}
@@ -9,13 +9,14 @@ use Rattle.day.specs.declared.Answer.{Answer}
 use Rattle.day.specs.declared.Day.{Day}
 use Rattle.day.specs.Windows.{Windows, at}
 use Rattle.day.specs.Plan.{MayStart, Proper}
+use Rattle.day.specs.Gap.{cost}
 use Rattle.day.specs.Answer.{done}
-use Rattle.day.specs.Refusal.{_then_, Passed}
+use Rattle.day.specs.Refusal.{_then_, stops, goes-on, Passed}
 use Rattle.day.specs.Check.{GoodRows, Accepted, ListCheck}
 use Rattle.day.proofs.Cases.{on-le, on-eq}
 use Rattle.day.proofs.Refusal.{IsCheck, refuses-is-check, refuses-row-is-check, refuses-pair-is-check, then-is-check, then-clear, passed-clear, clear-first, clear-next, no-fault, no-row-at-fault}
 use Rattle.day.proofs.Check.{list-is-check, clear-accepted}
-use Rattle.claim.specs.Claim.{Fit, Together, LengthCheck, WindowsCheck, ApartCheck, StartsCheck, ClaimCheck}
+use Rattle.claim.specs.Claim.{Fit, Together, LengthCheck, WindowsCheck, ApartCheck, StartsCheck, ClaimCheck, Costs}
 use Rattle.claim.proofs.Pair.{no-pair-at-fault}
 
 pub length-is-check : (w : Windows) (starts : List ℕ) → IsCheck (LengthCheck w starts)
@@ -92,3 +93,14 @@ good-rows-within h good = record { count = good .count; window = good .window; i
 -- a list that was checked and not refused is accepted
 pub passed-accepted : {day : Day} {w : Windows} (a : Answer) → (ListCheck day w then Passed) a → a .code ≡ done → Accepted day w
 passed-accepted a p e = clear-accepted (passed-clear list-is-check a p e)
+
+-- pricing answers 0 exactly for a fit plan, and then with its cost
+pub priced-fit : (day : Day) (w : Windows) (starts : List ℕ) (a : Answer) → (StartsCheck w starts then Costs day w starts) a → a .code ≡ done
+    → Fit w starts × (a .first ≡ cost day (w .count) (at starts))
+priced-fit day w starts a (stops p) e = absurd (starts-is-check w starts .not-done a p e)
+priced-fit day w starts a (goes-on clear p) e = (clear-fit w starts clear, ap (λ (x : Answer). x .first) p)
+
+pub priced-unfit : (day : Day) (w : Windows) (starts : List ℕ) (a : Answer) → (StartsCheck w starts then Costs day w starts) a
+    → (a .code ≡ done → ⊥) → Fit w starts → ⊥
+priced-unfit day w starts a (stops p) e fit = fit-clear w starts fit a p
+priced-unfit day w starts a (goes-on clear p) e fit = e (ap (λ (x : Answer). x .code) p)

@@ -1,6 +1,8 @@
 -- The laws of the definitions in specs/.
 pub mod Asleep
 pub mod Claim
+pub mod Choice
 pub mod Pair
 pub mod Rows
 pub mod Walk
+pub mod Promise

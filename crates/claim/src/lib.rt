@@ -3,14 +3,22 @@ mod check;
 pub mod gap;
 pub mod slots;
 
+ghost use mathlib.Core.Path.{_≡_};
 ghost use Rattle.day.specs.Windows.{windows};
+ghost use Rattle.day.specs.Answer.{says, done};
 ghost use Rattle.day.specs.Refusal.{_then_};
 ghost use Rattle.day.specs.Check.{most-jobs, most-slots, GoodRows, Accepted};
 ghost use Rattle.claim.specs.Claim.{StartsCheck, ClaimCheck, Costs, Priced};
 ghost use Rattle.claim.specs.Rows.{Judged};
+ghost use Rattle.claim.specs.Choice.{Compared, Chosen, HandedBack};
 use day::Answer;
 use day::Day;
 use day::code;
+
+// The two plans of a choice, as an answer numbers them.
+pub const OWN: u16 = 1;
+
+pub const SERVER: u16 = 2;
 
 // A claimed plan, judged: the answer, and of an accepted plan the row, counted from 1, that stands in each slot, 0 where none does.
 pub struct Claimed {
@@ -73,4 +81,67 @@ pub fn price(day: Day, releases: &[u16], deadlines: &[u16], starts: &[u16]) -> A
         return listed;
     }
     price_starts(day, releases, deadlines, starts)
+}
+
+fn winner(plan: u16) -> Answer
+    ensures { λ a. ⌜ a ≡ says done plan 0 ⌝ }
+{
+    Answer {
+        code: code::DONE,
+        first: plan,
+        second: 0,
+    }
+}
+
+// Of the answers of pricing two plans, which is of the cheaper proper plan; equal cost goes to the notebook's own.
+fn cheaper(own: Answer, server: Answer) -> Answer
+    ensures { λ a. ⌜ Compared own server a ⌝ }
+{
+    if own.code != code::DONE {
+        if server.code != code::DONE {
+            return Answer::of(code::NEITHER_PROPER);
+        }
+        return winner(SERVER);
+    }
+    if server.code != code::DONE {
+        return winner(OWN);
+    }
+    if server.first < own.first {
+        return winner(SERVER);
+    }
+    winner(OWN)
+}
+
+// Which of two claimed plans for one list wins: as first number 1, the notebook's own, or 2, the server's.
+pub fn which(day: Day, releases: &[u16], deadlines: &[u16], own: &[u16], server: &[u16]) -> Answer
+    ensures { λ a. ⌜ Chosen day (windows (now (releases .entry)) (now (deadlines .entry))) (now (own .entry)) (now (server .entry)) a ⌝ }
+{
+    let listed = day::check_list(day, releases, deadlines);
+    if listed.code != code::DONE {
+        return listed;
+    }
+    let own_price = price_starts(day, releases, deadlines, own);
+    let server_price = price_starts(day, releases, deadlines, server);
+    cheaper(own_price, server_price)
+}
+
+// The winner's first starts, one for each job, as a part of the plan that was lent; under a refusal the empty start of the notebook's own.
+pub fn choose<'a>(
+    day: Day,
+    releases: &[u16],
+    deadlines: &[u16],
+    own: &'a [u16],
+    server: &'a [u16],
+) -> &'a [u16]
+    ensures { λ part. ⌜ HandedBack day (windows (now (releases .entry)) (now (deadlines .entry))) (own .entry) (server .entry) part ⌝ }
+{
+    let count = releases.len();
+    let answer = which(day, releases, deadlines, own, server);
+    if answer.code != code::DONE {
+        return &own[..0];
+    }
+    if answer.first == OWN {
+        return &own[..count];
+    }
+    &server[..count]
 }

@@ -1,0 +1,96 @@
+-- Laws of the choice between two plans. Assumes nothing.
+use Prim.Native.Nat.{ℕ, _≤_, _<_}
+use mathlib.Core.Path.{_≡_, sym, _∙_, ap}
+use mathlib.Core.List.{List}
+use native.Mathlib.Omega.{arith}
+use Rattle.day.specs.declared.Answer.{Answer}
+use Rattle.day.specs.declared.Day.{Day}
+use Rattle.day.specs.Windows.{Windows}
+use Rattle.day.specs.Answer.{says, done}
+use Rattle.day.specs.Refusal.{_then_, stops, goes-on}
+use Rattle.day.specs.Check.{ListCheck}
+use Rattle.day.proofs.Refusal.{IsCheck, refuses-is-check, then-is-check}
+use Rattle.day.proofs.Check.{list-is-check}
+use Rattle.day.proofs.Cases.{give, on-eq}
+use Rattle.claim.specs.Claim.{Fit, StartsCheck, Costs}
+use Rattle.claim.specs.Choice.{
+  own-plan,
+  server-plan,
+  Wins,
+  own-wins,
+  server-wins,
+  NamesWinner,
+  NeitherCheck,
+  Chosen,
+  Compared,
+  keeps-own,
+  takes-server,
+  neither,
+}
+use Rattle.claim.proofs.Claim.{priced-fit, priced-unfit}
+
+pub neither-is-check : (w : Windows) (own server : List ℕ) → IsCheck (NeitherCheck w own server)
+neither-is-check w own server = refuses-is-check (λ e. omega arith)
+
+-- who wins is fit, so not both are unfit
+winner-fit : {day : Day} {w : Windows} {own server : List ℕ} {k : ℕ} → Wins day w own server k → (b : Answer) → NeitherCheck w own server b → ⊥
+winner-fit (own-wins fit _) b r = r .fault .0 fit
+winner-fit (server-wins fit _) b r = r .fault .1 fit
+
+module _ (day : Day) (w : Windows) (own server : List ℕ) where
+  named : {k : ℕ} {a : Answer} → Wins day w own server k → a ≡ says done k 0 → (NeitherCheck w own server then NamesWinner day w own server) a
+  named win e = goes-on (winner-fit win) (record { winner = _; wins = win; says = e })
+
+  -- comparing the two prices finds the winner
+  pub compared-named : (p q a : Answer) → (StartsCheck w own then Costs day w own) p → (StartsCheck w server then Costs day w server) q
+      → Compared p q a → (NeitherCheck w own server then NamesWinner day w own server) a
+  compared-named p q a priced-own priced-server (keeps-own code least e) =
+      give (priced-fit day w own p priced-own code)
+      (λ f.
+      named
+      (own-wins (f .0)
+      (λ fit.
+      on-eq (q .code) done
+      (λ z. omega (arith, f .1, priced-fit day w server q priced-server z .1, least z))
+      (λ z. absurd (priced-unfit day w server q priced-server z fit))))
+      e)
+  compared-named p q a priced-own priced-server (takes-server code least e) =
+      give (priced-fit day w server q priced-server code)
+      (λ f.
+      named
+      (server-wins (f .0)
+      (λ fit.
+      on-eq (p .code) done
+      (λ z. omega (arith, f .1, priced-fit day w own p priced-own z .1, least z))
+      (λ z. absurd (priced-unfit day w own p priced-own z fit))))
+      e)
+  compared-named p q a priced-own priced-server (neither bad-own bad-server e) =
+      stops
+      (record {
+        fault = (priced-unfit day w own p priced-own bad-own, priced-unfit day w server q priced-server bad-server);
+        says = e;
+      })
+
+-- an answer of 0 names the winner
+pub chosen-named : {day : Day} {w : Windows} {own server : List ℕ} (a : Answer) → Chosen day w own server a → a .code ≡ done
+    → NamesWinner day w own server a
+chosen-named a (stops p) e = absurd (list-is-check .not-done a p e)
+chosen-named {day} {w} {own} {server} a (goes-on _ (stops p)) e = absurd (neither-is-check w own server .not-done a p e)
+chosen-named a (goes-on _ (goes-on _ n)) e = n
+
+-- of an answer that names the winner, what its first number says
+pub named-own : {day : Day} {w : Windows} {own server : List ℕ} (a : Answer) → NamesWinner day w own server a → a .first ≡ own-plan
+    → Fit w own × (a ≡ says done own-plan 0)
+named-own {day} {w} {own} {server} a n e = by (n .winner) (n .wins) (n .says)
+  where
+    by : (k : ℕ) → Wins day w own server k → a ≡ says done k 0 → Fit w own × (a ≡ says done own-plan 0)
+    by _ (own-wins fit _) q = (fit, q)
+    by _ (server-wins fit _) q = absurd (omega (arith, ap (λ (x : Answer). x .first) q, e))
+
+pub named-server : {day : Day} {w : Windows} {own server : List ℕ} (a : Answer) → NamesWinner day w own server a → (a .first ≡ own-plan → ⊥)
+    → Fit w server × (a ≡ says done server-plan 0)
+named-server {day} {w} {own} {server} a n e = by (n .winner) (n .wins) (n .says)
+  where
+    by : (k : ℕ) → Wins day w own server k → a ≡ says done k 0 → Fit w server × (a ≡ says done server-plan 0)
+    by _ (own-wins fit _) q = absurd (e (ap (λ (x : Answer). x .first) q))
+    by _ (server-wins fit _) q = (fit, q)

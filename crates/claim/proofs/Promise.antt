@@ -1,0 +1,98 @@
+-- Each promise of this crate determines its outcome, and the two functions of the choice agree. Assumes nothing.
+use Prim.Native.Nat.{ℕ, _<_}
+use mathlib.Core.Path.{_≡_, refl, sym, _∙_, ap}
+use mathlib.Core.List.{List}
+use native.Mathlib.Omega.{arith}
+use lib.ListN.{length}
+use lib.Seq.{ext-getD}
+use denote.Ref.{RefT, now}
+use Rattle.day.specs.declared.Answer.{Answer}
+use Rattle.day.specs.declared.Day.{Day}
+use Rattle.day.specs.Windows.{Windows}
+use Rattle.day.specs.Plan.{Plan}
+use Rattle.day.specs.Answer.{says, done}
+use Rattle.day.proofs.Cases.{on-eq}
+use Rattle.day.proofs.Refusal.{IsCheck, then-unique}
+use Rattle.day.proofs.Check.{list-is-check}
+use Rattle.claim.specs.declared.Claimed.{Claimed}
+use Rattle.claim.specs.Claim.{Priced, ClaimCheck}
+use Rattle.claim.specs.Rows.{RowsBySlot, Judged}
+use Rattle.claim.specs.Choice.{
+  Wins,
+  own-wins,
+  server-wins,
+  Chosen,
+  StartOf,
+  PartFor,
+  refused,
+  of-own,
+  of-server,
+  HandedBack,
+}
+use Rattle.claim.proofs.Claim.{claim-is-check}
+use Rattle.claim.proofs.Choice.{neither-is-check}
+
+pub priced-unique : (day : Day) (w : Windows) (starts : List ℕ) (a b : Answer) → Priced day w starts a → Priced day w starts b → a ≡ b
+priced-unique day w starts = then-unique (claim-is-check day w starts) (λ a b p q. p ∙ sym q)
+
+rows-unique : {n : ℕ} {start : Plan} {rows others : List ℕ} → RowsBySlot n start rows → RowsBySlot n start others → rows ≡ others
+rows-unique {n} {start} {rows} {others} p q =
+    ext-getD 0 rows others (p .long ∙ sym (q .long))
+    (λ t h. p .each t (omega (arith, p .long)) ∙ sym (q .each t (omega (arith, p .long))))
+
+pub judged-unique : (day : Day) (w : Windows) (starts : List ℕ) (c d : Claimed) → Judged (ClaimCheck day w starts) w starts c
+    → Judged (ClaimCheck day w starts) w starts d → c ≡ d
+judged-unique day w starts c d p q = rw (same-answer, same-rows)
+  where
+    same-answer : c .answer ≡ d .answer
+    same-answer = then-unique (claim-is-check day w starts) (λ a b e f. e ∙ sym f) (c .answer) (d .answer) (p .answer) (q .answer)
+
+    same-rows : c .rows ≡ d .rows
+    same-rows =
+        on-eq (c .answer .code) done
+        (λ e. rows-unique (p .accepted e) (q .accepted (rw same-answer at e)))
+        (λ e. rows-unique (p .refused e) (q .refused (rw same-answer at e)))
+
+wins-unique : {day : Day} {w : Windows} {own server : List ℕ} {k l : ℕ} → Wins day w own server k → Wins day w own server l → k ≡ l
+wins-unique (own-wins f g) (own-wins h i) = refl
+wins-unique (own-wins f g) (server-wins h i) = absurd (omega (arith, g h, i f))
+wins-unique (server-wins f g) (own-wins h i) = absurd (omega (arith, g h, i f))
+wins-unique (server-wins f g) (server-wins h i) = refl
+
+pub chosen-unique : (day : Day) (w : Windows) (own server : List ℕ) (a b : Answer) → Chosen day w own server a → Chosen day w own server b
+    → a ≡ b
+chosen-unique day w own server =
+    then-unique list-is-check
+    (then-unique (neither-is-check w own server)
+    (λ a b p q. p .says ∙ ap (λ (k : ℕ). says done k 0) (wins-unique (p .wins) (q .wins)) ∙ sym (q .says)))
+
+-- the part handed back is the one for what the companion answers
+pub handed-agrees : (day : Day) (w : Windows) (own server part : RefT (List ℕ)) (a : Answer) → HandedBack day w own server part
+    → Chosen day w (now own) (now server) a → PartFor (w .count) own server part a
+handed-agrees day w own server part a h chosen =
+    rw (chosen-unique day w (now own) (now server) a (h .answer) chosen (h .chosen)) (h .handed)
+
+-- two parts that begin at the same place and hold the same starts
+pub record SamePart (part other : RefT (List ℕ)) : Type 0 where
+  pub begins : part .ptr ≡ other .ptr
+  pub holds : now part ≡ now other
+
+start-unique : {plan part other : RefT (List ℕ)} {n : ℕ} → StartOf plan n part → StartOf plan n other → SamePart part other
+start-unique p q = record { begins = p .begins ∙ sym (q .begins); holds = p .holds ∙ sym (q .holds) }
+
+part-unique : {n : ℕ} {own server part other : RefT (List ℕ)} {a : Answer} → PartFor n own server part a → PartFor n own server other a
+    → SamePart part other
+part-unique (refused e p) (refused f q) = start-unique p q
+part-unique (refused e p) (of-own f q) = absurd (e (ap (λ (x : Answer). x .code) f))
+part-unique (refused e p) (of-server f q) = absurd (e (ap (λ (x : Answer). x .code) f))
+part-unique (of-own e p) (refused f q) = absurd (f (ap (λ (x : Answer). x .code) e))
+part-unique (of-own e p) (of-own f q) = start-unique p q
+part-unique (of-own e p) (of-server f q) = absurd (omega (arith, ap (λ (x : Answer). x .first) (sym e ∙ f)))
+part-unique (of-server e p) (refused f q) = absurd (f (ap (λ (x : Answer). x .code) e))
+part-unique (of-server e p) (of-own f q) = absurd (omega (arith, ap (λ (x : Answer). x .first) (sym e ∙ f)))
+part-unique (of-server e p) (of-server f q) = start-unique p q
+
+pub handed-unique : (day : Day) (w : Windows) (own server part other : RefT (List ℕ)) → HandedBack day w own server part
+    → HandedBack day w own server other → SamePart part other
+handed-unique day w own server part other p q =
+    part-unique (p .handed) (handed-agrees day w own server other (p .answer) q (p .chosen))

@@ -1,0 +1,50 @@
+-- `claim::cheaper` meets its contract. Assumes nothing.
+use borrow.Author.Needs.{needs}
+use Rattle.claim.specs.Choice.{keeps-own, takes-server, neither}
+use Rattle.claim.proofs.cheaper.Statement.{statement}
+use Rattle.claim.proofs.cheaper.Tie as tie
+
+of-requires : tie.Need-of-requires
+of-requires c κs = search needs
+
+returns : tie.Need-returns
+returns c = neither (c .before .before .before .if1 .taken) (c .before .if2 .taken) (c .of .ensures)
+
+winner-requires : tie.Need-winner-requires
+winner-requires c κs = search needs
+
+returns-2 : tie.Need-returns-2
+returns-2 c = takes-server (c .before .if2 .left) (λ e. absurd (c .before .before .before .if1 .taken e)) (c .winner .ensures)
+
+winner-requires-2 : tie.Need-winner-requires-2
+winner-requires-2 c κs = search needs
+
+returns-3 : tie.Need-returns-3
+returns-3 c = keeps-own (c .before .before .before .if1 .left) (λ e. absurd (c .before .if3 .taken e)) (c .winner2 .ensures)
+
+winner-requires-3 : tie.Need-winner-requires-3
+winner-requires-3 c κs = search needs
+
+returns-4 : tie.Need-returns-4
+returns-4 c = takes-server (c .before .before .before .before .if3 .left) (λ e. c .before .if4 .taken) (c .winner3 .ensures)
+
+winner-requires-4 : tie.Need-winner-requires-4
+winner-requires-4 c κs = search needs
+
+returns-5 : tie.Need-returns-5
+returns-5 c = keeps-own (c .before .before .before .before .before .before .if1 .left) (λ e. c .before .if4 .left) (c .winner4 .ensures)
+
+pub cheaper-spec : {M : Type 1} → statement M
+cheaper-spec =
+    tie.close
+    (tie.spec
+    of-requires
+    returns
+    winner-requires
+    returns-2
+    winner-requires-2
+    returns-3
+    winner-requires-3
+    returns-4
+    winner-requires-4
+    returns-5)

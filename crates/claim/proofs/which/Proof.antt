@@ -1,0 +1,41 @@
+-- `claim::which` meets its contract. Assumes nothing.
+use borrow.Author.Needs.{needs}
+use Rattle.day.specs.Windows.{windows}
+use Rattle.day.proofs.Refusal.{then-refused, then-passed}
+use Rattle.day.proofs.Check.{list-is-check}
+use Rattle.claim.proofs.Claim.{passed-accepted}
+use Rattle.claim.proofs.Choice.{compared-named}
+use Rattle.claim.proofs.which.Statement.{statement}
+use Rattle.claim.proofs.which.Tie as tie
+
+check-list-requires : tie.Need-check-list-requires
+check-list-requires c κs = search needs
+
+returns : tie.Need-returns
+returns c = then-refused _ (c .before .before .check-list .ensures) (c .if1 .taken)
+
+price-starts-requires : tie.Need-price-starts-requires
+price-starts-requires c κs = passed-accepted _ (c .before .before .check-list .ensures) (c .if1 .left)
+
+price-starts-requires-2 : tie.Need-price-starts-requires-2
+price-starts-requires-2 c κs = passed-accepted _ (c .before .before .before .check-list .ensures) (c .before .if1 .left)
+
+cheaper-requires : tie.Need-cheaper-requires
+cheaper-requires c κs = search needs
+
+returns-2 : tie.Need-returns-2
+returns-2 c =
+    then-passed list-is-check _ _ (c .before .before .before .before .before .check-list .ensures) (c .before .before .before .if1 .left)
+    (compared-named (c .before .before .before .before .before .before .before .before .before .before .args .day) (windows (c .before .before .before .before .before .before .before .before .before .before .args .releases .now) (c .before .before .before .before .before .before .before .before .before .before .args .deadlines .now)) (c .before .before .before .before .before .before .before .before .before .before .args .own .now)
+    (c .before .before .before .before .before .before .before .before .before .before .args .server .now) _ _ _ (c .before .before .price-starts .ensures) (c .before .price-starts2 .ensures) (c .cheaper .ensures))
+
+pub which-spec : {M : Type 1} → statement M
+which-spec =
+    tie.close
+    (tie.spec
+    check-list-requires
+    returns
+    price-starts-requires
+    price-starts-requires-2
+    cheaper-requires
+    returns-2)
