@@ -1,0 +1,84 @@
+-- `moving::first_leaving` meets its contract: at each turn no row below `row` would leave the day. Assumes nothing.
+use Prim.Native.Nat.{ℕ, _-_, _≤_, _<_}
+use native.Mathlib.Omega.{arith}
+use lib.ListN.{length}
+use borrow.Author.Count.{below-more}
+use borrow.Author.Needs.{needs}
+use Rattle.day.specs.Windows.{windows}
+use Rattle.moving.specs.Moving.{Decides, LeavesDay}
+use mir.Syntax.{w16}
+use mir.Val.{toZ, ofZ}
+use mir.ValLaws.{toZ-ofZ}
+use Rattle.moving.proofs.first_leaving.Statement.{statement}
+use Rattle.moving.proofs.first_leaving.Tie as tie
+
+abbrev Inv-loop : tie.InvT-loop
+Inv-loop slots by releases deadlines row₀ row = (row ≤ length releases) × ((j : ℕ) → j < row → LeavesDay slots (toZ w16 by) (windows releases deadlines) j → ⊥)
+
+abbrev μ-loop : tie.MeasureT-loop
+μ-loop slots by releases deadlines row₀ row = length releases - row
+
+-- what the test of the present row says
+decided : (c : tie.After-leaves-day Inv-loop μ-loop) →
+    let start = c .before .before .before .before .before .before .before in
+    Decides
+    (LeavesDay (start .args .slots) (toZ w16 (ofZ w16 (start .args .by))) (windows (start .args .releases .now) (start .args .deadlines .now)) (c .before .before .before .before .loop .row))
+    (c .leaves-day .result)
+decided c = rw (c .before .at-or-zero .ensures) at (c .leaves-day .ensures)
+
+loop-holds : tie.Need-loop-holds Inv-loop μ-loop
+loop-holds c = search needs
+
+mul-leaves-day : tie.Need-mul-leaves-day Inv-loop μ-loop
+mul-leaves-day c = omega arith
+
+shared-slice-read-leaves-day : tie.Need-shared-slice-read-leaves-day Inv-loop μ-loop
+shared-slice-read-leaves-day c = omega arith
+
+at-or-zero-requires : tie.Need-at-or-zero-requires Inv-loop μ-loop
+at-or-zero-requires c κs = omega arith
+
+leaves-day-requires : tie.Need-leaves-day-requires Inv-loop μ-loop
+leaves-day-requires c κs = omega arith
+
+returns : tie.Need-returns Inv-loop μ-loop
+returns c =
+    let start = c .before .before .before .before .before .before .before .before in
+    rw (← toZ-ofZ w16 (start .args .by) (start .fits .by))
+    (record {
+      within = search needs;
+      fault = λ h. decided (c .before) .holds (c .if1 .taken);
+      lowest = c .before .before .before .before .before .loop .inv .1;
+    })
+
+add-row : tie.Need-add-row Inv-loop μ-loop
+add-row c = omega arith
+
+loop-less : tie.Need-loop-less Inv-loop μ-loop
+loop-less c = omega arith
+
+loop-again : tie.Need-loop-again Inv-loop μ-loop
+loop-again c = (search needs, below-more _ _ (c .before .before .before .before .before .loop .inv .1) (decided (c .before) .fails (c .if1 .left)))
+
+returns-2 : tie.Need-returns-2 Inv-loop μ-loop
+returns-2 c =
+    let start = c .before .before .before .before in
+    rw (← toZ-ofZ w16 (start .args .by) (start .fits .by))
+    (record { within = search needs; fault = λ h. absurd (omega arith); lowest = c .before .loop .inv .1 })
+
+pub first-leaving-spec : {M : Type 1} → statement M
+first-leaving-spec =
+    tie.close
+    (tie.spec
+    Inv-loop
+    μ-loop
+    loop-holds
+    mul-leaves-day
+    shared-slice-read-leaves-day
+    at-or-zero-requires
+    leaves-day-requires
+    returns
+    add-row
+    loop-less
+    loop-again
+    returns-2)

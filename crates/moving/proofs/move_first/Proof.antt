@@ -1,0 +1,94 @@
+-- `moving::move_first` meets its contract: at each turn the first numbers are moved. Assumes nothing.
+use Prim.Native.Nat.{ℕ, _-_, _≤_, _<_}
+use mathlib.Core.Path.{_≡_, _∙_, ap}
+use native.Mathlib.Omega.{arith}
+use lib.IntN.{pos, _+ℤ_}
+use Rattle.day.specs.Change.{Shifts}
+use Rattle.day.specs.Windows.{at}
+use Rattle.moving.specs.Moving.{FirstMoved}
+use Rattle.moving.proofs.Firsts.{first-none, first-next}
+use Rattle.moving.proofs.Signs.{moved-reads}
+use mir.Syntax.{w16, w32}
+use mir.Val.{toZ, ofZ}
+use mir.ValLaws.{toZ-ofZ}
+use Rattle.moving.proofs.move_first.Statement.{statement}
+use Rattle.moving.proofs.move_first.Tie as tie
+
+abbrev Inv-loop : tie.InvT-loop
+Inv-loop by count list₀ row₀ list row = (row ≤ count) × FirstMoved (toZ w16 by) row list₀ list
+
+abbrev μ-loop : tie.MeasureT-loop
+μ-loop by count list₀ row₀ list row = count - row
+
+-- where the present number goes, and that the cast finds it
+place : (c : tie.After-moved Inv-loop μ-loop) →
+    let start = c .before .before .before .before .before in
+    (y : ℕ) × (y < 65536) × Shifts (start .args .by) (at (start .args .list .now) (c .before .before .before .loop .row)) y
+place c = c .before .before .before .before .before .pre .1 (c .before .before .before .loop .row) (omega arith)
+
+reads : (c : tie.After-moved Inv-loop μ-loop) → toZ w32 (ofZ w32 (c .moved .result)) ≡ pos (place c .0)
+reads c =
+    let start = c .before .before .before .before .before in
+    let at-loop = c .before .before .before .loop in
+    moved-reads (at (at-loop .list) (at-loop .row)) (start .args .by) (omega (arith, c .before .slice-known2 .given (at-loop .row))) (start .fits .by) (c .moved .ensures)
+    ∙ rw (at-loop .inv .1 .rest (at-loop .row) (omega arith)) (place c .2)
+
+loop-holds : tie.Need-loop-holds Inv-loop μ-loop
+loop-holds c = (omega arith, first-none)
+
+mul-moved : tie.Need-mul-moved Inv-loop μ-loop
+mul-moved c = omega arith
+
+slice-read-moved : tie.Need-slice-read-moved Inv-loop μ-loop
+slice-read-moved c = omega arith
+
+moved-requires : tie.Need-moved-requires Inv-loop μ-loop
+moved-requires c κs = omega arith
+
+cast-list : tie.Need-cast-list Inv-loop μ-loop
+cast-list c = rw (reads c) (tt, record { fits = place c .1 })
+
+mul-list : tie.Need-mul-list Inv-loop μ-loop
+mul-list c = omega arith
+
+slice-write-list : tie.Need-slice-write-list Inv-loop μ-loop
+slice-write-list c = omega arith
+
+add-row : tie.Need-add-row Inv-loop μ-loop
+add-row c = omega arith
+
+loop-less : tie.Need-loop-less Inv-loop μ-loop
+loop-less c = omega arith
+
+loop-again : tie.Need-loop-again Inv-loop μ-loop
+loop-again c =
+    let start = c .before .before .before .before .before in
+    (omega arith, rw (reads c) (first-next (omega arith) (rw (toZ-ofZ w16 (start .args .by) (start .fits .by)) (place c .2)) (c .before .before .before .loop .inv .1)))
+
+same-length : tie.Need-same-length Inv-loop μ-loop
+same-length c = c .before .loop .inv .1 .as-long
+
+returns : tie.Need-returns Inv-loop μ-loop
+returns c =
+    let start = c .before .before .before in
+    let whole : c .before .loop .row ≡ start .args .count = omega arith in
+    rw (← toZ-ofZ w16 (start .args .by) (start .fits .by)) (rw whole at (c .before .loop .inv .1))
+
+pub move-first-spec : {M : Type 1} → statement M
+move-first-spec =
+    tie.close
+    (tie.spec
+    Inv-loop
+    μ-loop
+    loop-holds
+    mul-moved
+    slice-read-moved
+    moved-requires
+    cast-list
+    mul-list
+    slice-write-list
+    add-row
+    loop-less
+    loop-again
+    same-length
+    returns)

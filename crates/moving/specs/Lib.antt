@@ -1,0 +1,2 @@
+-- The moving of a list, of document 01.
+pub mod Moving
