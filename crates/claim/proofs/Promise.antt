@@ -1,5 +1,5 @@
 -- Each promise of this crate determines its outcome, and the two functions of the choice agree. Assumes nothing.
-use Prim.Native.Nat.{ℕ, _<_}
+use Prim.Native.Nat.{ℕ, _≤_, _<_}
 use mathlib.Core.Path.{_≡_, refl, sym, _∙_, ap}
 use mathlib.Core.List.{List}
 use native.Mathlib.Omega.{arith}
@@ -11,12 +11,12 @@ use Rattle.day.specs.declared.Day.{Day}
 use Rattle.day.specs.Windows.{Windows}
 use Rattle.day.specs.Plan.{Plan}
 use Rattle.day.specs.Answer.{says, done}
-use Rattle.day.proofs.Cases.{on-eq}
+use Rattle.day.proofs.Cases.{on-eq, on-le}
 use Rattle.day.proofs.Refusal.{IsCheck, then-unique}
 use Rattle.day.proofs.Check.{list-is-check}
 use Rattle.claim.specs.declared.Claimed.{Claimed}
 use Rattle.claim.specs.Claim.{Priced, ClaimCheck}
-use Rattle.claim.specs.Rows.{RowsBySlot, Judged}
+use Rattle.claim.specs.Rows.{RowsBySlot, NextJob, Judged}
 use Rattle.claim.specs.Choice.{
   Wins,
   own-wins,
@@ -52,6 +52,15 @@ judged-unique day w starts c d p q = rw (same-answer, same-rows)
         on-eq (c .answer .code) done
         (λ e. rows-unique (p .accepted e) (q .accepted (rw same-answer at e)))
         (λ e. rows-unique (p .refused e) (q .refused (rw same-answer at e)))
+
+next-at-most : {rows : List ℕ} {from a b : ℕ} → NextJob rows from a → NextJob rows from b → b ≤ a
+next-at-most {rows} {from} {a} {b} p q =
+    on-le b a (λ h. h)
+    (λ h.
+    on-le (length rows) a (λ l. omega (arith, q .within (omega (arith, p .later)))) (λ l. absurd (q .none a h (p .later) (p .job l))))
+
+pub next-unique : (rows : List ℕ) (from a b : ℕ) → NextJob rows from a → NextJob rows from b → a ≡ b
+next-unique rows from a b p q = omega (arith, next-at-most p q, next-at-most q p)
 
 wins-unique : {day : Day} {w : Windows} {own server : List ℕ} {k l : ℕ} → Wins day w own server k → Wins day w own server l → k ≡ l
 wins-unique (own-wins f g) (own-wins h i) = refl

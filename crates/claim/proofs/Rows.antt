@@ -12,8 +12,8 @@ use borrow.Author.Tests.{eq-eqb, ne-eqb}
 use Rattle.day.specs.Windows.{at}
 use Rattle.day.specs.Plan.{Plan, taken}
 use Rattle.day.specs.Check.{most-slots}
-use Rattle.day.proofs.Cases.{on-eq}
-use Rattle.claim.specs.Rows.{row-at, RowsBySlot, holds-job}
+use Rattle.day.proofs.Cases.{on-eq, on-le}
+use Rattle.claim.specs.Rows.{row-at, RowsBySlot, NextJob, holds-job}
 
 pub row-at-none : (start : Plan) (t : ℕ) → row-at 0 start t ≡ 0
 unfolding row-at
@@ -72,3 +72,6 @@ holds-taken {n} {start} {rows} r m t within h =
 -- the rows of a day's slots are as many as the slots
 pub rows-cut : {n : ℕ} {start : Plan} {rows : List ℕ} → RowsBySlot n start rows → (m : ℕ) → m ≤ most-slots → length (take m rows) ≡ m
 rows-cut {n} {start} {rows} r m within = length-take-le m rows (omega (arith, r .long))
+
+pub next-within : {rows : List ℕ} {slot : ℕ} → NextJob rows 0 slot → slot ≤ length rows
+next-within {rows} {slot} next = on-le slot 0 (λ h. omega arith) (λ h. next .within h)

@@ -11,7 +11,6 @@ use Rattle.day.specs.Plan.{Plan, taken}
 use Rattle.day.specs.Check.{most-slots}
 use Rattle.day.specs.declared.Power.{Power}
 use Rattle.day.specs.Gap.{price, ended, gaps-since, gaps, total, cost}
-use Rattle.day.specs.Refusal.{FirstOrEnd}
 use Rattle.day.proofs.Cases.{on, on-le}
 use Rattle.day.proofs.Gap.{
   price-at-most-length,
@@ -26,8 +25,8 @@ use Rattle.day.proofs.Gap.{
   gaps-same,
 }
 use Rattle.day.specs.Windows.{at}
-use Rattle.claim.specs.Rows.{RowsBySlot, holds-job, HoldsJob}
-use Rattle.claim.proofs.Rows.{holds-job-true, holds-job-false, holds-taken, rows-cut}
+use Rattle.claim.specs.Rows.{RowsBySlot, NextJob, holds-job, HoldsJob}
+use Rattle.claim.proofs.Rows.{holds-job-true, holds-job-false, holds-taken, rows-cut, next-within}
 
 -- the slots before the first job leave no gap
 gaps-skip : (full : ℕ → Bool) (k t s m : ℕ) → s ≡ t + k → ((u : ℕ) → u < s → full u ≡ false) → gaps full t (k + m) ≡ gaps full s m
@@ -70,17 +69,17 @@ module _ (power : Power) (rows : List ℕ) where
   from-first s (suc m) full =
       gaps-since-full (holds-job rows) 0 s m (full (omega arith)) ∙ sym (gaps-full (holds-job rows) s m (full (omega arith)))
 
-  pay-first : (s : ℕ) → FirstOrEnd (length rows) (HoldsJob rows) s
+  pay-first : (s : ℕ) → NextJob rows 0 s
       → left-to-pay power rows 0 s ≡ total (price power) (gaps (holds-job rows) 0 (length rows))
   unfolding left-to-pay
   pay-first s first =
-      let all : length rows ≡ s + (length rows - s) = omega (arith, first .within) in
-      rw (from-first s (length rows - s) (λ h. first .fault (omega arith)))
+      let all : length rows ≡ s + (length rows - s) = omega (arith, next-within first) in
+      rw (from-first s (length rows - s) (λ h. first .job (omega arith)))
       (ap (total (price power))
       (sym (ap (gaps (holds-job rows) 0) all ∙ gaps-skip (holds-job rows) s 0 s (length rows - s) (omega arith) none)))
     where
       none : (u : ℕ) → u < s → holds-job rows u ≡ false
-      none u h = on (holds-job rows u) (λ e. absurd (first .lowest u h e)) (λ e. e)
+      none u h = on (holds-job rows u) (λ e. absurd (first .none u h (omega arith) e)) (λ e. e)
 
 -- what the gaps between the jobs cost
 abbrev pub whole-cost : Power → List ℕ → ℕ
@@ -93,9 +92,9 @@ pub record Paying (power : Power) (rows : List ℕ) (cost empty slot : ℕ) : Ty
   pub sum : cost + left-to-pay power rows empty slot ≡ whole-cost power rows
 
 module _ {power : Power} {rows : List ℕ} where
-  pub paying-first : {s : ℕ} → FirstOrEnd (length rows) (HoldsJob rows) s → Paying power rows 0 0 s
+  pub paying-first : {s : ℕ} → NextJob rows 0 s → Paying power rows 0 0 s
   paying-first {s} first =
-      record { within = first .within; small = omega arith; sum = omega (arith, pay-first power rows s first) }
+      record { within = next-within first; small = omega arith; sum = omega (arith, pay-first power rows s first) }
 
   pub paying-empty : {cost empty slot empty' : ℕ} → Paying power rows cost empty slot → slot < length rows → at rows slot ≡ 0
       → empty' ≡ empty + 1 → Paying power rows cost empty' (slot + 1)

@@ -1,5 +1,5 @@
 -- Which row stands in a slot.
-use Prim.Native.Nat.{ℕ, zero, suc, _<_}
+use Prim.Native.Nat.{ℕ, zero, suc, _≤_, _<_}
 use mathlib.Core.Path.{_≡_}
 use mathlib.Core.Bool.{Bool, true, cond, not}
 use mathlib.Core.List.{List}
@@ -29,6 +29,13 @@ holds-job rows t = not (eqb (at rows t) 0)
 
 abbrev pub HoldsJob : List ℕ → ℕ → Type 0
 HoldsJob rows t = holds-job rows t ≡ true
+
+-- the first slot from `from` on that holds a job, or the end of the list
+pub record NextJob (rows : List ℕ) (from slot : ℕ) : Type 0 where
+  pub later : from ≤ slot
+  pub within : from < slot → slot ≤ length rows
+  pub job : slot < length rows → HoldsJob rows slot
+  pub none : (u : ℕ) → u < slot → from ≤ u → HoldsJob rows u → ⊥
 
 -- a claimed plan, judged by a check: what it answers, and which row stands in each slot; under a refusal none does
 pub record Judged (Check : Answer → Type 0) (w : Windows) (starts : List ℕ) (claimed : Claimed) : Type 0 where

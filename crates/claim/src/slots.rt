@@ -3,10 +3,9 @@ ghost use Prim.Native.Nat.{ℕ, _<_, _≤_};
 ghost use mathlib.Core.Path.{_≡_};
 ghost use lib.ListN.{length};
 ghost use Rattle.day.specs.Windows.{at};
-ghost use Rattle.day.specs.Refusal.{FirstOrEnd};
 ghost use Rattle.day.specs.Check.{most-jobs, most-slots};
 ghost use Rattle.day.specs.Gap.{price, gaps, total};
-ghost use Rattle.claim.specs.Rows.{RowsBySlot, HoldsJob, holds-job};
+ghost use Rattle.claim.specs.Rows.{RowsBySlot, NextJob, holds-job};
 use crate::gap;
 use day::Power;
 
@@ -25,11 +24,11 @@ pub(crate) fn rows_by_slot(starts: &[u16], count: usize) -> [u16; 96]
     rows
 }
 
-// The first slot that holds a job; the number of slots where none does.
-pub fn first_job(rows: &[u16]) -> usize
-    ensures { λ r. ⌜ FirstOrEnd (length (now (rows .entry))) (HoldsJob (now (rows .entry))) r ⌝ }
+// The first slot from `from` on that holds a job; the number of slots where none does.
+pub fn next_job(rows: &[u16], from: usize) -> usize
+    ensures { λ r. ⌜ NextJob (now (rows .entry)) from r ⌝ }
 {
-    let mut slot: usize = 0;
+    let mut slot = from;
     while slot < rows.len() {
         if rows[slot] != 0 {
             return slot;
@@ -46,7 +45,7 @@ pub(crate) fn cost(power: Power, rows: &[u16]) -> u16
 {
     let mut cost: u16 = 0;
     let mut empty: u16 = 0;
-    let mut slot = first_job(rows);
+    let mut slot = next_job(rows, 0);
     while slot < rows.len() {
         if rows[slot] == 0 {
             empty += 1;

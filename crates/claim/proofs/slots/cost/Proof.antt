@@ -15,11 +15,11 @@ Inv-loop power rows cost₀ empty₀ slot₀ cost empty slot = Paying power rows
 abbrev μ-loop : tie.MeasureT-loop
 μ-loop power rows cost₀ empty₀ slot₀ cost empty slot = length rows - slot
 
-first-job-requires : tie.Need-first-job-requires Inv-loop μ-loop
-first-job-requires c κs = search needs
+next-job-requires : tie.Need-next-job-requires Inv-loop μ-loop
+next-job-requires c κs = search needs
 
 loop-holds : tie.Need-loop-holds Inv-loop μ-loop
-loop-holds c = paying-first (c .first-job .ensures)
+loop-holds c = paying-first (c .next-job .ensures)
 
 mul-if1 : tie.Need-mul-if1 Inv-loop μ-loop
 mul-if1 c = search needs
@@ -60,7 +60,7 @@ cost-spec =
     (tie.spec
     Inv-loop
     μ-loop
-    first-job-requires
+    next-job-requires
     loop-holds
     mul-if1
     shared-slice-read-if1

@@ -1,4 +1,4 @@
--- `claim::slots::first_job` meets its contract. Assumes nothing.
+-- `claim::slots::next_job` meets its contract. Assumes nothing.
 use Prim.Native.Nat.{ℕ, _≤_, _<_, _-_}
 use native.Mathlib.Omega.{arith}
 use borrow.Author.Count.{below-more}
@@ -7,17 +7,18 @@ use lib.ListN.{length}
 use Rattle.day.proofs.Cases.{not-both}
 use Rattle.claim.specs.Rows.{HoldsJob}
 use Rattle.claim.proofs.Rows.{holds-job-true, holds-job-false}
-use Rattle.claim.proofs.slots.first_job.Statement.{statement}
-use Rattle.claim.proofs.slots.first_job.Tie as tie
+use Rattle.claim.proofs.slots.next_job.Statement.{statement}
+use Rattle.claim.proofs.slots.next_job.Tie as tie
 
 abbrev Inv-loop : tie.InvT-loop
-Inv-loop rows slot₀ slot = (slot ≤ length rows) × ((k : ℕ) → k < slot → HoldsJob rows k → ⊥)
+Inv-loop rows from slot₀ slot =
+    (from ≤ slot) × ((from < slot → slot ≤ length rows) × ((k : ℕ) → k < slot → from ≤ k → HoldsJob rows k → ⊥))
 
 abbrev μ-loop : tie.MeasureT-loop
-μ-loop rows slot₀ slot = length rows - slot
+μ-loop rows from slot₀ slot = length rows - slot
 
 loop-holds : tie.Need-loop-holds Inv-loop μ-loop
-loop-holds c = search needs
+loop-holds c = (search needs, ((λ h. absurd (omega arith)), (λ k h l. absurd (omega arith))))
 
 mul-if1 : tie.Need-mul-if1 Inv-loop μ-loop
 mul-if1 c = search needs
@@ -28,9 +29,10 @@ shared-slice-read-if1 c = search needs
 returns : tie.Need-returns Inv-loop μ-loop
 returns c =
     record {
-      within = search needs;
-      fault = λ h. holds-job-true _ _ (c .if1 .taken);
-      lowest = c .before .before .before .loop .inv .1;
+      later = search needs;
+      within = λ h. omega arith;
+      job = λ h. holds-job-true _ _ (c .if1 .taken);
+      none = c .before .before .before .loop .inv .1 .1;
     }
 
 add-slot : tie.Need-add-slot Inv-loop μ-loop
@@ -40,13 +42,22 @@ loop-less : tie.Need-loop-less Inv-loop μ-loop
 loop-less c = search needs
 
 loop-again : tie.Need-loop-again Inv-loop μ-loop
-loop-again c = (search needs, below-more _ _ (c .before .before .before .loop .inv .1) (λ h. not-both h (holds-job-false _ _ (c .if1 .left))))
+loop-again c = (
+  search needs,
+  ((λ h. omega arith), below-more _ _ (c .before .before .before .loop .inv .1 .1) (λ l h. not-both h (holds-job-false _ _ (c .if1 .left)))),
+)
 
 returns-2 : tie.Need-returns-2 Inv-loop μ-loop
-returns-2 c = record { within = search needs; fault = λ h. absurd (omega arith); lowest = c .before .loop .inv .1 }
+returns-2 c =
+    record {
+      later = c .before .loop .inv .0;
+      within = c .before .loop .inv .1 .0;
+      job = λ h. absurd (omega arith);
+      none = c .before .loop .inv .1 .1;
+    }
 
-pub first-job-spec : {M : Type 1} → statement M
-first-job-spec =
+pub next-job-spec : {M : Type 1} → statement M
+next-job-spec =
     tie.close
     (tie.spec
     Inv-loop
