@@ -1,11 +1,10 @@
 -- Laws of lists whose first places are filled. Assumes nothing.
-use Prim.Native.Nat.{ℕ, suc, _+_, _<_, _≤_}
+use Prim.Native.Nat.{ℕ, _+_, _<_}
 use mathlib.Core.Path.{_≡_, refl, sym, _∙_}
 use mathlib.Core.List.{List}
 use native.Mathlib.Omega.{arith}
 use lib.ListN.{length, set, length-set}
 use lib.Seq.{getD-set-same, getD-set-other, ext-getD}
-use Rattle.day.specs.Windows.{at}
 use Rattle.day.proofs.Cases.{on-eq, on-le}
 use Rattle.dayfile.specs.Format.{column}
 use Rattle.dayfile.specs.Reader.{Fills}

@@ -8,3 +8,4 @@ pub mod Reader
 pub mod Writer
 pub mod ReadBack
 pub mod Unique
+pub mod Sample

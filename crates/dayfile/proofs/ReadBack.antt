@@ -1,7 +1,7 @@
 -- Reading undoes writing: of a file that the writer wrote, whatever the notes before it, the reader gives what was written. Assumes nothing.
-use Prim.Native.Nat.{ℕ, _+_, _*_, _-_, _<_, _≤_, min}
-use mathlib.Core.Path.{_≡_, refl, sym, _∙_, ap}
-use mathlib.Core.List.{List, _++_}
+use Prim.Native.Nat.{ℕ, _+_, _*_, _-_, _<_, _≤_}
+use mathlib.Core.Path.{_≡_, _∙_, ap}
+use mathlib.Core.List.{List}
 use native.Mathlib.Nat.{add-zero}
 use native.Mathlib.Omega.{arith}
 use lib.ListN.{length, take}
@@ -9,12 +9,12 @@ use lib.Seq.{length-take-le}
 use Rattle.day.specs.declared.Answer.{Answer}
 use Rattle.day.specs.declared.Day.{Day}
 use Rattle.day.specs.Answer.{says, done}
-use Rattle.day.specs.Windows.{Windows, at, windows}
+use Rattle.day.specs.Windows.{Windows, windows}
 use Rattle.day.specs.Check.{most-jobs}
 use Rattle.day.proofs.Cases.{give}
 use Rattle.day.proofs.Refusal.{then-next}
 use Rattle.dayfile.specs.declared.Reading.{Reading}
-use Rattle.dayfile.specs.Format.{rows, trailer, rows-and-trailer, distance-back, count-in, slots-in, wake-in, distance-in, Marked, release-in, deadline-in}
+use Rattle.dayfile.specs.Format.{rows, rows-and-trailer, distance-back, count-in, slots-in, wake-in, distance-in, Marked, release-in, deadline-in}
 use Rattle.dayfile.specs.Reader.{FileCheck, Read}
 use Rattle.dayfile.specs.Writer.{file-length, Stored, Written}
 use Rattle.dayfile.specs.ReadBack.{ReadBack}
@@ -22,7 +22,7 @@ use Rattle.dayfile.proofs.Format.{length-rows, length-rows-and-trailer}
 use Rattle.dayfile.proofs.Fills.{fills-cong}
 use Rattle.dayfile.proofs.Reader.{day-ext}
 use Rattle.dayfile.proofs.Stores.{stored-length}
-use Rattle.dayfile.proofs.Stands.{Stands, stored-stands, stands-first, stands-next, rows-stand, TrailerStands, trailer-stands}
+use Rattle.dayfile.proofs.Stands.{Stands, stored-stands, stands-first, stands-next, rows-stand, trailer-stands}
 use Rattle.dayfile.proofs.Writer.{Writable, writable}
 
 -- what a file says in which rows and trailer stand last

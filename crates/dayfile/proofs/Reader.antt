@@ -7,7 +7,6 @@ use lib.ListN.{length}
 use Rattle.day.specs.declared.Answer.{Answer}
 use Rattle.day.specs.declared.Day.{Day}
 use Rattle.day.specs.Answer.{done}
-use Rattle.day.specs.Check.{most-jobs}
 use Rattle.day.proofs.Cases.{give, on-eq, on-le}
 use Rattle.dayfile.specs.Format.{distance-back, count-in, distance-in}
 use Rattle.dayfile.specs.Reader.{FileCheck}

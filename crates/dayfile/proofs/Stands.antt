@@ -1,10 +1,10 @@
 -- Bytes that stand at a place of a file: a number, a row and n rows are read as they were written. Assumes nothing.
-use Prim.Native.Nat.{ℕ, zero, suc, _+_, _*_, _/_, _%_, _<_, _≤_}
-use mathlib.Core.Path.{_≡_, refl, sym, _∙_, ap}
+use Prim.Native.Nat.{ℕ, zero, suc, _+_, _*_, _<_, _≤_}
+use mathlib.Core.Path.{_≡_, sym, _∙_, ap}
 use mathlib.Core.List.{List, [], _∷_, _++_}
-use native.Mathlib.Nat.{add-zero, add-assoc}
+use native.Mathlib.Nat.{add-assoc}
 use native.Mathlib.Omega.{arith}
-use lib.ListN.{length, take, drop, length-append, List·getD-append}
+use lib.ListN.{length, take, length-append, List·getD-append}
 use lib.Seq.{length-take-le, getD-append-add, getD-take}
 use Rattle.day.specs.declared.Day.{Day}
 use Rattle.day.specs.Windows.{Windows, at}
@@ -12,7 +12,7 @@ use Rattle.day.proofs.Cases.{give, on-eq}
 use Rattle.dayfile.specs.Bytes.{bytes-of, number-at}
 use Rattle.dayfile.specs.Format.{row, rows, distance-back, trailer, column}
 use Rattle.dayfile.specs.Writer.{Stored}
-use Rattle.dayfile.proofs.Format.{length-bytes-of, length-row, length-rows}
+use Rattle.dayfile.proofs.Format.{length-bytes-of, length-rows}
 
 pub record Stands (file : List ℕ) (place : ℕ) (bytes : List ℕ) : Type 0 where
   pub byte : (i : ℕ) → i < length bytes → at file (place + i) ≡ at bytes i

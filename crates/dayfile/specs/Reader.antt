@@ -1,10 +1,9 @@
 -- What the reader promises. T, L and windows are not judged, and the notes are not looked at.
-use Prim.Native.Nat.{ℕ, _+_, _<_, _≤_, min}
+use Prim.Native.Nat.{ℕ, _<_, _≤_, min}
 use mathlib.Core.Path.{_≡_}
 use mathlib.Core.List.{List}
 use lib.ListN.{length}
 use Rattle.day.specs.declared.Answer.{Answer}
-use Rattle.day.specs.declared.Day.{Day}
 use Rattle.day.specs.Windows.{at}
 use Rattle.day.specs.Answer.{done, too-many-jobs, short-file, wrong-mark, wrong-distance, cut-file, few-rows}
 use Rattle.day.specs.Refusal.{_then_, Refuses, Passed}

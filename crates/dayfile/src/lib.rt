@@ -9,7 +9,7 @@ use day::wide;
 ghost use mathlib.Core.Path.{_≡_};
 ghost use Prim.Native.Nat.{_+_, _*_, _<_, _≤_, min};
 ghost use lib.ListN.{length};
-ghost use Rattle.day.specs.Windows.{at, windows};
+ghost use Rattle.day.specs.Windows.{windows};
 ghost use Rattle.dayfile.specs.Bytes.{bytes-of, number-at};
 ghost use Rattle.dayfile.specs.Format.{row, rows, trailer, slots-in, wake-in, column};
 ghost use Rattle.dayfile.specs.Reader.{no-reading, Fills, FileCheck, Read};
@@ -20,6 +20,11 @@ const ROW: usize = 4;
 
 // The trailer's bytes: count, slots, wake, distance back to the first row, mark.
 const TRAILER: usize = 10;
+
+// The two bytes at the end of every day file.
+const MARK_FIRST: u8 = 80;
+
+const MARK_SECOND: u8 = 76;
 
 // What the reader gives beside the rows that it fills.
 pub struct Reading {
@@ -37,7 +42,7 @@ pub fn read(file: &[u8], releases: &mut [u16], deadlines: &mut [u16]) -> Reading
         return refusal(answer);
     }
     let end = file.len();
-    let count = number_at(file, end - 10);
+    let count = number_at(file, end - TRAILER);
     let first = end - wide(number_at(file, end - 4));
     let day = day_in(file);
     read_column(file, first, wide(count), releases);
@@ -84,13 +89,13 @@ fn check_file(file: &[u8], room: usize) -> Answer
     if end < TRAILER {
         return Answer::of(code::SHORT_FILE);
     }
-    if file[end - 2] != 80 {
+    if file[end - 2] != MARK_FIRST {
         return Answer::of(code::WRONG_MARK);
     }
-    if file[end - 1] != 76 {
+    if file[end - 1] != MARK_SECOND {
         return Answer::of(code::WRONG_MARK);
     }
-    let count = number_at(file, end - 10);
+    let count = number_at(file, end - TRAILER);
     if count > MOST_JOBS {
         return Answer::of(code::TOO_MANY_JOBS);
     }
@@ -107,7 +112,7 @@ fn check_file(file: &[u8], room: usize) -> Answer
     Answer::of(code::DONE)
 }
 
-// Fills the first `count` places of `list` with every fourth byte's number from `from` on.
+// Fills the first `count` places of `list` with one number of each row; the first row's stands at the byte `from`.
 fn read_column(file: &[u8], from: usize, count: usize, list: &mut [u16])
     requires { ⌜ (from + 4 * count ≤ length (now file)) × (count ≤ length (now list)) ⌝ }
     ensures { λ _. ⌜ Fills count (column (now (file .entry)) from) (now (list .entry)) (now (list .exit)) ⌝ }
@@ -184,15 +189,15 @@ fn write_row(release: u16, deadline: u16, file: &mut [u8], place: usize)
 }
 
 fn write_trailer(count: u16, day: Day, file: &mut [u8], place: usize)
-    requires { ⌜ (count ≤ 40) × (place + 10 ≤ length (now file)) ⌝ }
+    requires { ⌜ (4 * count + 10 < 65536) × (place + 10 ≤ length (now file)) ⌝ }
     ensures { λ _. ⌜ Stored place (trailer count day) (now (file .entry)) (now (file .exit)) ⌝ }
 {
     write_number(count, file, place);
     write_number(day.slots, file, place + 2);
     write_number(day.power.wake, file, place + 4);
     write_number(4 * count + 10, file, place + 6);
-    file[place + 8] = 80;
-    file[place + 9] = 76;
+    file[place + 8] = MARK_FIRST;
+    file[place + 9] = MARK_SECOND;
 }
 
 fn write_number(number: u16, file: &mut [u8], place: usize)

@@ -1,6 +1,6 @@
 -- Where exactly a moved window leaves the day, at either end, in numbers without a sign; the smallest shift. Assumes nothing.
 use Prim.Native.Nat.{ℕ, suc, _+_, _-_, _<_, _≤_}
-use mathlib.Core.Path.{_≡_, refl}
+use mathlib.Core.Path.{refl}
 use mathlib.Core.Logic.{inl, inr, ⊎-elim}
 use native.Mathlib.Omega.{arith}
 use lib.IntN.{pos, negsuc}

@@ -1,6 +1,6 @@
 -- Laws of lists whose first numbers are moved. Assumes nothing.
-use Prim.Native.Nat.{ℕ, _+_, _<_, _≤_}
-use mathlib.Core.Path.{_≡_, refl, sym, _∙_, ap}
+use Prim.Native.Nat.{ℕ, _+_, _<_}
+use mathlib.Core.Path.{refl, _∙_}
 use mathlib.Core.List.{List}
 use native.Mathlib.Omega.{arith}
 use lib.ListN.{length, set, length-set}

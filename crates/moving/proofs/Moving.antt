@@ -1,11 +1,9 @@
 -- Laws of the promise of moving: when a window stays in the day, and what holds of a list that is moved. Assumes nothing.
 use Prim.Native.Nat.{ℕ, _<_, _≤_}
-use mathlib.Core.Path.{_≡_, refl, sym, _∙_, subst}
-use mathlib.Core.Bool.{Bool, true, false}
+use mathlib.Core.Path.{_≡_, refl}
 use mathlib.Core.Logic.{_⊎_, inl, inr, ⊎-elim}
 use mathlib.Core.List.{List}
 use native.Mathlib.Omega.{arith}
-use lib.Dec.{T}
 use lib.ListN.{length}
 use lib.IntN.{ℤ, pos, negsuc, _+ℤ_}
 use lib.Signed.{ltZ, _<ℤ_}
@@ -19,7 +17,7 @@ use Rattle.day.specs.Check.{most-slots, most-jobs, GoodRows}
 use Rattle.day.proofs.Cases.{give, on, on-le}
 use Rattle.day.proofs.Refusal.{IsCheck, refuses-row-is-check, then-is-check, passed-clear, clear-first, clear-next, no-fault, no-row-at-fault}
 use Rattle.day.proofs.Check.{slots-is-check, jobs-is-check, clear-good-rows}
-use Rattle.moving.specs.Moving.{Outside, LeavesDay, MoveCheck, Movable, FirstMoved, RowsMoved}
+use Rattle.moving.specs.Moving.{Outside, MoveCheck, Movable, FirstMoved, RowsMoved}
 use Rattle.moving.proofs.Signs.{below, not-below, shift-keeps-order}
 
 -- where a window goes that stays in the day

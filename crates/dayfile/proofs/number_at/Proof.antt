@@ -30,7 +30,13 @@ mul-result : tie.Need-mul-result
 mul-result c = omega (arith, c .shared-slice-known2 .given (c .before .before .args .place + 1))
 
 add-result-2 : tie.Need-add-result-2
-add-result-2 c = omega (arith, c .before .shared-slice-known .given (c .before .before .args .place), c .shared-slice-known2 .given (c .before .before .args .place + 1))
+add-result-2 c =
+    let start = c .before .before in
+    omega (
+      arith,
+      c .before .shared-slice-known .given (start .args .place),
+      c .shared-slice-known2 .given (start .args .place + 1),
+    )
 
 returns : tie.Need-returns
 unfolding number-at

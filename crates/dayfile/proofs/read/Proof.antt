@@ -1,6 +1,6 @@
 -- `dayfile::read` meets its contract. Assumes nothing.
 use Prim.Native.Nat.{min}
-use mathlib.Core.Path.{_≡_, refl}
+use mathlib.Core.Path.{refl}
 use native.Mathlib.Omega.{arith}
 use lib.ListN.{length}
 use borrow.Author.Needs.{needs}
@@ -27,7 +27,9 @@ refusal-requires c κs = search needs
 returns : tie.Need-returns
 returns c =
     record {
-      answer = rw (c .refusal .ensures, ← c .before .before .before .before .shorter .ensures) (c .before .before .before .check-file .ensures);
+      answer =
+          rw (c .refusal .ensures, ← c .before .before .before .before .shorter .ensures)
+          (c .before .before .before .check-file .ensures);
       accepted = λ e. absurd (c .before .if1 .taken (rw (c .refusal .ensures) at e));
       refused = λ h. record { reading = rw (c .refusal .ensures); kept-releases = refl; kept-deadlines = refl };
     }
@@ -76,8 +78,10 @@ same-length-2 c = search needs
 
 returns-2 : tie.Need-returns-2
 returns-2 c =
-    let again = c .before .before .before .before in
-    let numbers = again .before .before .before .before .before in
+    let second = c .before .before in
+    let again = second .before .before in
+    let first = again .before .before .before in
+    let numbers = first .before .before in
     let known = numbers .before .before .before .before .before in
     record {
       answer = rw (← known .before .before .before .shorter .ensures) (known .before .before .check-file .ensures);
@@ -86,9 +90,9 @@ returns-2 c =
             count = numbers .before .before .before .before .number-at .ensures;
             slots = numbers .before .day-in .ensures .0;
             wake = numbers .before .day-in .ensures .1;
-            first-releases = fills-as _ _ _ (omega (arith, numbers)) (omega (arith, numbers)) (c .before .before .before .before .before .before .before .read-column .ensures);
+            first-releases = fills-as _ _ _ (omega (arith, numbers)) (omega (arith, numbers)) (first .read-column .ensures);
             first-deadlines =
-                fills-as _ _ _ (omega (arith, again .wide3, numbers)) (omega (arith, numbers)) (c .before .before .read-column2 .ensures);
+                fills-as _ _ _ (omega (arith, again .wide3, numbers)) (omega (arith, numbers)) (second .read-column2 .ensures);
           };
       refused = λ h. absurd (h (known .if1 .left));
     }

@@ -1,5 +1,5 @@
 -- `dayfile::write` meets its contract. Assumes nothing.
-use mathlib.Core.Path.{_≡_, refl}
+use mathlib.Core.Path.{refl}
 use native.Mathlib.Omega.{arith}
 use lib.ListN.{length}
 use borrow.Author.Needs.{needs}
@@ -43,11 +43,14 @@ same-length c = search needs
 returns-2 : tie.Need-returns-2
 unfolding rows-and-trailer
 returns-2 c =
-    let start = c .before .before .before .before .before .before .before .before in
+    let trailer = c .before .before in
+    let rows = trailer .before .before .before .before in
+    let judged = rows .before .before in
     record {
-      answer = start .before .before .check-room .ensures;
-      accepted = λ e. stored-more (omega (arith, accepted start)) (c .before .before .before .before .before .before .write-rows .ensures) (rw length-rows) (c .before .before .write-trailer .ensures);
-      refused = λ h. absurd (h (start .if1 .left));
+      answer = judged .before .before .check-room .ensures;
+      accepted = λ e.
+          stored-more (omega (arith, accepted judged)) (rows .write-rows .ensures) (rw length-rows) (trailer .write-trailer .ensures);
+      refused = λ h. absurd (h (judged .if1 .left));
     }
 
 pub write-spec : {M : Type 1} → statement M

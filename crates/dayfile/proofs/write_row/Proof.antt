@@ -1,5 +1,4 @@
 -- `dayfile::write_row` meets its contract. Assumes nothing.
-use mathlib.Core.Path.{_≡_, sym}
 use native.Mathlib.Omega.{arith}
 use borrow.Author.Needs.{needs}
 use Rattle.dayfile.specs.Format.{row}
@@ -26,7 +25,10 @@ same-length c = search needs
 
 returns : tie.Need-returns
 unfolding row
-returns c = stored-more (omega arith) (c .before .before .before .before .before .before .write-number .ensures) (rw length-bytes-of) (c .before .before .write-number2 .ensures)
+returns c =
+    let second = c .before .before in
+    let first = second .before .before .before .before in
+    stored-more (omega arith) (first .write-number .ensures) (rw length-bytes-of) (second .write-number2 .ensures)
 
 pub write-row-spec : {M : Type 1} → statement M
 write-row-spec =

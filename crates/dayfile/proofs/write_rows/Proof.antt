@@ -1,6 +1,6 @@
 -- `dayfile::write_rows` meets its contract: at each turn the rows so far are stored. Assumes nothing.
 use Prim.Native.Nat.{_+_, _*_, _-_, _≤_}
-use mathlib.Core.Path.{_≡_, sym}
+use mathlib.Core.Path.{_≡_}
 use native.Mathlib.Numerals.{add-one}
 use native.Mathlib.Omega.{arith}
 use lib.ListN.{length}
@@ -13,7 +13,8 @@ use Rattle.dayfile.proofs.write_rows.Statement.{statement}
 use Rattle.dayfile.proofs.write_rows.Tie as tie
 
 abbrev Inv-loop : tie.InvT-loop
-Inv-loop releases deadlines file₀ from i₀ place₀ file i place = (i ≤ length releases) × (place ≡ from + 4 * i) × Stored from (rows (windows releases deadlines) i) file₀ file
+Inv-loop releases deadlines file₀ from i₀ place₀ file i place =
+    (i ≤ length releases) × (place ≡ from + 4 * i) × Stored from (rows (windows releases deadlines) i) file₀ file
 
 abbrev μ-loop : tie.MeasureT-loop
 μ-loop releases deadlines file₀ from i₀ place₀ file i place = length releases - i
@@ -58,7 +59,10 @@ same-length : tie.Need-same-length Inv-loop μ-loop
 same-length c = rows-stored-length _ _ (omega arith) (c .before .loop .inv .2)
 
 returns : tie.Need-returns Inv-loop μ-loop
-returns c = let whole : c .before .loop .i ≡ length (c .before .before .before .before .before .args .releases .now) = omega arith in rw whole at (c .before .loop .inv .2)
+returns c =
+    let start = c .before .before .before .before .before in
+    let whole : c .before .loop .i ≡ length (start .args .releases .now) = omega arith in
+    rw whole at (c .before .loop .inv .2)
 
 pub write-rows-spec : {M : Type 1} → statement M
 write-rows-spec =

@@ -4,10 +4,10 @@ use lib.ListN.{length}
 use mir.Syntax.{w16}
 use mir.ValLaws.{toZ-ofZ}
 use borrow.Author.Needs.{needs}
-use Rattle.day.proofs.Check.{slots-is-check, jobs-is-check, clear-good-rows}
-use Rattle.day.proofs.Refusal.{then-refused, then-passed, then-clear, passed-clear, found-refused, end-clear}
 use Rattle.day.specs.Windows.{windows}
 use Rattle.day.specs.Refusal.{stops, goes-on, FirstOrEnd}
+use Rattle.day.proofs.Check.{slots-is-check, jobs-is-check, clear-good-rows}
+use Rattle.day.proofs.Refusal.{then-refused, then-passed, then-clear, passed-clear, found-refused, end-clear}
 use Rattle.moving.specs.Moving.{LeavesDay}
 use Rattle.moving.proofs.check_move.Statement.{statement}
 use Rattle.moving.proofs.check_move.Tie as tie

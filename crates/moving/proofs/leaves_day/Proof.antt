@@ -2,12 +2,12 @@
 use mathlib.Core.Logic.{inl, inr, ⊎-elim}
 use mathlib.Core.Path.{_≡_, refl}
 use native.Mathlib.Omega.{arith}
-use lib.IntN.{ℤ, pos, _+ℤ_}
+use lib.IntN.{pos, _+ℤ_}
+use mir.Syntax.{w32}
+use mir.Val.{toZ, ofZ}
 use borrow.Author.Needs.{needs}
 use Rattle.day.proofs.Cases.{not-both}
 use Rattle.moving.proofs.Signs.{moved-reads, number-reads, below, not-below}
-use mir.Syntax.{w32}
-use mir.Val.{toZ, ofZ}
 use Rattle.moving.proofs.leaves_day.Statement.{statement}
 use Rattle.moving.proofs.leaves_day.Tie as tie
 

@@ -1,30 +1,31 @@
 -- `moving::move_list` meets its contract. Assumes nothing.
-use mathlib.Core.Path.{refl}
+use mathlib.Core.Path.{_≡_, refl}
 use native.Mathlib.Omega.{arith}
-use lib.ListN.{length}
+use mir.Syntax.{w16}
+use mir.Val.{toZ, ofZ}
+use mir.ValLaws.{toZ-ofZ}
 use borrow.Author.Needs.{needs}
-use Rattle.day.proofs.Check.{good-rows-deadlines}
 use Rattle.day.specs.Refusal.{_then_, Passed}
 use Rattle.day.specs.Windows.{windows}
+use Rattle.day.proofs.Check.{good-rows-deadlines}
 use Rattle.moving.specs.Moving.{MoveCheck}
 use Rattle.moving.proofs.Moving.{Acceptable, acceptable, releases-movable, deadlines-movable, rows-moved}
-use mir.Syntax.{w16}
-use mir.ValLaws.{toZ-ofZ}
 use Rattle.moving.proofs.move_list.Statement.{statement}
 use Rattle.moving.proofs.move_list.Tie as tie
 
--- what was judged, of the shift as it came in
+-- the callees have the shift's bits
+same-shift : (c : tie.Start) → toZ w16 (ofZ w16 (c .args .by)) ≡ c .args .by
+same-shift c = toZ-ofZ w16 (c .args .by) (c .fits .by)
+
 judged : (c : tie.After-check-move) →
-    let start = c .before .before .before .before .before .args in
-    (MoveCheck (start .slots) (start .by) (windows (start .releases .now) (start .deadlines .now)) then Passed) (c .check-move .result)
-judged c =
-    let start = c .before .before .before .before .before in
-    rw (toZ-ofZ w16 (start .args .by) (start .fits .by)) at (c .check-move .ensures)
+    let args = c .before .before .before .before .before .args in
+    (MoveCheck (args .slots) (args .by) (windows (args .releases .now) (args .deadlines .now)) then Passed) (c .check-move .result)
+judged c = rw (same-shift (c .before .before .before .before .before)) at (c .check-move .ensures)
 
 -- a list that was not refused can be moved
 accepted : (c : tie.Else1) →
-    let start = c .before .before .before .before .before .before .before .args in
-    Acceptable (start .slots) (start .by) (windows (start .releases .now) (start .deadlines .now))
+    let args = c .before .before .before .before .before .before .before .args in
+    Acceptable (args .slots) (args .by) (windows (args .releases .now) (args .deadlines .now))
 accepted c = acceptable _ (judged (c .before .before)) (c .if1 .left)
 
 check-move-requires : tie.Need-check-move-requires
@@ -37,17 +38,28 @@ same-length-2 : tie.Need-same-length-2
 same-length-2 c = search needs
 
 returns : tie.Need-returns
-returns c = record { answer = judged (c .before .before); accepted = λ e. absurd (c .if1 .taken e); refused = λ h. (refl, refl) }
+returns c =
+    record {
+      answer = judged (c .before .before);
+      accepted = λ e. absurd (c .if1 .taken e);
+      refused = λ h. (refl, refl);
+    }
 
 move-first-requires : tie.Need-move-first-requires
 move-first-requires c κs =
-    let start = c .before .before .before .before .before .before .before .before in
-    (omega arith, rw (toZ-ofZ w16 (start .args .by) (start .fits .by)) (releases-movable (start .args .releases .now) (start .args .deadlines .now) (accepted (c .before))))
+    let start = c .before .before .before .before .before .before .before .before in (
+      omega arith,
+      rw (same-shift start)
+          (releases-movable (start .args .releases .now) (start .args .deadlines .now) (accepted (c .before))),
+    )
 
 move-first-requires-2 : tie.Need-move-first-requires-2
 move-first-requires-2 c κs =
-    let start = c .before .before .before .before .before .before .before .before .before .before .before .before in
-    (good-rows-deadlines (start .args .releases .now) (start .args .deadlines .now) (accepted (c .before .before .before .before .before) .rows), rw (toZ-ofZ w16 (start .args .by) (start .fits .by)) (deadlines-movable (start .args .releases .now) (start .args .deadlines .now) (accepted (c .before .before .before .before .before))))
+    let known = c .before .before .before .before .before in
+    let start = known .before .before .before .before .before .before .before in (
+      good-rows-deadlines (start .args .releases .now) (start .args .deadlines .now) (accepted known .rows),
+      rw (same-shift start) (deadlines-movable (start .args .releases .now) (start .args .deadlines .now) (accepted known)),
+    )
 
 same-length-3 : tie.Need-same-length-3
 same-length-3 c = search needs
@@ -57,11 +69,15 @@ same-length-4 c = search needs
 
 returns-2 : tie.Need-returns-2
 returns-2 c =
-    let start = c .before .before .before .before .before .before .before .before .before .before .before .before .before .before .before in
+    let second = c .before .before in
+    let first = second .before .before .before .before in
+    let known = first .before .before in
+    let start = known .before .before .before .before .before .before .before in
     record {
-      answer = judged (c .before .before .before .before .before .before .before .before .before .before);
-      accepted = λ e. rows-moved (rw (toZ-ofZ w16 (start .args .by) (start .fits .by)) at (c .before .before .before .before .before .before .move-first .ensures)) (rw (toZ-ofZ w16 (start .args .by) (start .fits .by)) at (c .before .before .move-first2 .ensures));
-      refused = λ h. absurd (h (c .before .before .before .before .before .before .before .before .if1 .left));
+      answer = judged (known .before .before);
+      accepted = λ e.
+          rows-moved (rw (same-shift start) at (first .move-first .ensures)) (rw (same-shift start) at (second .move-first2 .ensures));
+      refused = λ h. absurd (h (known .if1 .left));
     }
 
 pub move-list-spec : {M : Type 1} → statement M

@@ -1,8 +1,8 @@
 -- `moving::signed` meets its contract. Assumes nothing.
 use native.Mathlib.Omega.{arith}
-use borrow.Author.Needs.{needs}
 use mir.Syntax.{w32}
 use mir.ValLaws.{toZ-pos}
+use borrow.Author.Needs.{needs}
 use Rattle.moving.proofs.signed.Statement.{statement}
 use Rattle.moving.proofs.signed.Tie as tie
 
