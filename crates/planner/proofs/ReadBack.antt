@@ -1,0 +1,114 @@
+-- The laws of reading back: a job that isn't released in the span is passed over, one that is splits it. Assumes nothing.
+use Prim.Native.Nat.{ℕ, suc, _+_, _-_, _≤_, _<_}
+use mathlib.Core.Path.{_≡_, refl, sym, ap, _∙_}
+use mathlib.Core.Bool.{true, false, _&&_}
+use mathlib.Core.List.{List}
+use native.Mathlib.Numerals.{add-one}
+use native.Mathlib.Omega.{arith}
+use lib.Dec.{leb, ltb}
+use lib.ListN.{length, set, length-set}
+use lib.Seq.{getD-set-same, getD-set-other}
+use Rattle.day.specs.declared.Day.{Day}
+use Rattle.day.specs.Windows.{at}
+use Rattle.day.proofs.Cases.{on-eq, on-le, give, not-both}
+use Rattle.rule.specs.Span.{Problem, in-span, value, split, read-back}
+use Rattle.rule.proofs.Value.{In, in-span-true, in-span-intro, value-out, sides-is, LatestBest, split-found, read-back-out, read-back-last, read-back-left, read-back-right}
+use Rattle.planner.specs.Table.{Span, need}
+use Rattle.planner.specs.Jobs.{none, jobs, Prepared}
+use Rattle.planner.specs.Level.{Level}
+use Rattle.planner.specs.ReadBack.{Readable, Among, ReadBack}
+use Rattle.planner.proofs.Table.{need-more}
+use Rattle.planner.proofs.Jobs.{prepared-fewer}
+
+module _ (P : Problem) where
+  pub back-none : (s e : ℕ) (old : List ℕ) → ReadBack P 0 s e old old
+  back-none s e old = record { long = refl; read = λ i w. absurd (omega (arith, w .0)); kept = λ i n. refl }
+
+  -- a job that isn't released in the span is passed over
+  pub back-out : (k s e : ℕ) (old new : List ℕ) → (In P s e k → ⊥) → ReadBack P k s e old new → ReadBack P (suc k) s e old new
+  back-out k s e old new out r = record {
+    long = r .long;
+    read = λ i w. on-eq i k (λ q. absurd (out (rw (← q) (w .1, w .2))))
+        (λ q. r .read i (omega (arith, w .0), w .1, w .2) ∙ sym (read-back-out P k s e i out));
+    kept = λ i n. r .kept i (λ w. n (omega (arith, w .0), w .1, w .2));
+  }
+
+  -- one that is splits it, and the two sides are read back
+  module _ (k s e : ℕ) (inside : In P s e k) (best : LatestBest P k s e (split P k s e)) where
+    -- no lower job is released where job k stands
+    released-after : (i : ℕ) → i < k → split P k s e ≤ P .release i → split P k s e < P .release i
+    released-after i below h =
+        on-eq (P .release i) (split P k s e) (λ q. absurd (best .may .clear i below q)) (λ q. omega arith)
+
+    pub back-in : (v : ℕ) (old left new : List ℕ) → v + 1 ≡ split P k s e → k < length old
+        → ReadBack P k s (split P k s e) (set old k v) left → ReadBack P k (suc (split P k s e)) e left new
+        → ReadBack P (suc k) s e old new
+    back-in v old left new start room l r = record {
+      long = r .long ∙ l .long ∙ length-set old k v;
+      read = λ i w. on-eq i k
+          (λ q. rw q (omega (arith, r .kept k (λ z. omega (arith, z .0)), l .kept k (λ z. omega (arith, z .0)), getD-set-same old k v 0 room, read-back-last P k s e inside)))
+          (λ q.
+          let below : i < k = omega (arith, w .0) in
+          on-le (split P k s e) (P .release i)
+          (λ h. r .read i (below, released-after i below h, w .2) ∙ sym (read-back-right P k s e i inside below h))
+          (λ h. omega (arith, r .kept i (λ z. omega (arith, z .1)), l .read i (below, w .1, h), read-back-left P k s e i inside below h)));
+      kept = λ i n.
+          r .kept i (λ z. n (omega (arith, z .0), omega (arith, z .1, best .may .low, inside), z .2))
+          ∙ l .kept i (λ z. n (omega (arith, z .0), z .1, omega (arith, z .2, best .below)))
+          ∙ getD-set-other old k i v 0 (λ q. n (rw q (omega arith, inside .0, inside .1)));
+    }
+
+  -- the same, as code has it
+  pub back-passed : (n k s e : ℕ) (old new : List ℕ) → n ≡ suc k → (In P s e k → ⊥) → ReadBack P k s e old new → ReadBack P n s e old new
+  back-passed n k s e old new p out r = rw p (back-out k s e old new out r)
+
+  pub back-split : (n k s e t : ℕ) (old left new : List ℕ) → n ≡ suc k → t ≡ split P k s e → In P s e k
+      → LatestBest P k s e (split P k s e) → 1 ≤ t → k < length old → ReadBack P k s t (set old k (t - 1)) left
+      → ReadBack P k (t + 1) e left new → ReadBack P n s e old new
+  back-split n k s e t old left new p q inside best first room l r =
+      let at-split : ReadBack P k s (split P k s e) (set old k (t - 1)) left = rw (← q) l in
+      rw p (back-in k s e inside best (t - 1) old left new (omega arith) room at-split (rw (add-one, q) at r))
+
+  pub inside-true : (s e k : ℕ) → (leb s (P .release k) && ltb (P .release k) e) ≡ true → In P s e k
+  unfolding in-span
+  inside-true s e k h = in-span-true P s e k h
+
+  pub inside-false : (s e k : ℕ) → (leb s (P .release k) && ltb (P .release k) e) ≡ false → In P s e k → ⊥
+  unfolding in-span
+  inside-false s e k h i = not-both (in-span-intro P s e k i) h
+
+-- the highest of the lowest n jobs has the number k
+module _ (day : Day) (rel dead lowest table : List ℕ) (n k s e : ℕ) (p : n ≡ suc k) (r : Readable day rel dead lowest table n s e) where
+  abbrev P : Problem
+  P = jobs day rel dead
+
+  some : value P (suc k) s e < none
+  some = rw p at (r .some)
+
+  fewer : (a b : ℕ) → Span (day .slots) a b → value P k a b < none → Readable day rel dead lowest table k a b
+  fewer a b v h = record {
+    prepared = prepared-fewer day rel dead lowest n (r .prepared) k (omega arith);
+    long = omega (arith, r .long, need-more (day .slots) k n (omega arith));
+    levels = λ i l. r .levels i (omega arith);
+    span = v;
+    some = h;
+  }
+
+  pub readable-out : (In P s e k → ⊥) → Readable day rel dead lowest table k s e
+  readable-out out = fewer s e (r .span) (omega (arith, some, value-out P k s e out))
+
+  module _ (inside : In P s e k) where
+    pub readable-split : LatestBest P k s e (split P k s e)
+    readable-split = split-found P k s e inside some
+
+    pub readable-left : (t : ℕ) → t ≡ split P k s e → Readable day rel dead lowest table k s t
+    readable-left t q =
+        give readable-split
+        (λ b. rw q (fewer s (split P k s e) (omega (arith, inside, b .may .low), omega (arith, r .span, b .below))
+        (omega (arith, some, b .best, sides-is P k s e (split P k s e)))))
+
+    pub readable-right : (t : ℕ) → t ≡ split P k s e → Readable day rel dead lowest table k (t + 1) e
+    readable-right t q =
+        give readable-split
+        (λ b. rw (add-one, q) (fewer (suc (split P k s e)) e (b .below, r .span .1)
+        (omega (arith, some, b .best, sides-is P k s e (split P k s e)))))

@@ -1,0 +1,73 @@
+-- The laws of a row of sums: at each e it holds the least sum of the two sides over the splits before t. Assumes nothing.
+use Prim.Native.Nat.{ℕ, suc, _+_, _≤_, _<_, min}
+use mathlib.Core.Path.{_≡_, refl, sym, ap, _∙_}
+use mathlib.Core.Bool.{Bool, true, false}
+use mathlib.Core.List.{List}
+use native.Mathlib.Numerals.{add-one}
+use native.Mathlib.Omega.{arith}
+use Rattle.day.specs.Windows.{at}
+use Rattle.day.proofs.Cases.{on, on-le}
+use Rattle.rule.specs.Extreme.{least}
+use Rattle.rule.specs.Span.{Problem, may-split, value, sides}
+use Rattle.rule.proofs.Extreme.{least-zero, least-pass, least-skip, least-none-pass}
+use Rattle.rule.proofs.Value.{MaySplit, may-split-true, may-split-intro, value-in, sides-is}
+use Rattle.planner.specs.Written.{Written, itself, lowered}
+
+-- at each e of a row from s, the least sum over the splits of job k before t
+abbrev pub Sums : Problem → ℕ → ℕ → ℕ → ℕ → List ℕ → Type 0
+Sums P slots k s t sums = (e : ℕ) → e ≤ slots + 2 → at sums e ≡ least (may-split P k) (sides P k s e) (P .none) (min t e)
+
+module _ (P : Problem) (k : ℕ) where
+  pub may-not-split : (t : ℕ) → (MaySplit P k t → ⊥) → may-split P k t ≡ false
+  may-not-split t n = on (may-split P k t) (λ h. absurd (n (may-split-true P k t h))) (λ h. h)
+
+  module _ (slots s : ℕ) where
+    -- before its release job k splits nowhere
+    pub sums-none : (sums : List ℕ) → ((e : ℕ) → e ≤ slots + 2 → at sums e ≡ P .none) → Sums P slots k s (P .release k) sums
+    sums-none sums h e l =
+        h e l
+        ∙ sym (least-none-pass (may-split P k) (sides P k s e) (P .none) 0 (min (P .release k) e) (omega arith)
+        (λ t z u. may-not-split t (λ m. omega (arith, m .low)))
+        ∙ least-zero (may-split P k) (sides P k s e) (P .none))
+
+    -- the bound on t doesn't matter past e
+    least-past : (e t u : ℕ) → e ≤ t → e ≤ u
+        → least (may-split P k) (sides P k s e) (P .none) (min t e) ≡ least (may-split P k) (sides P k s e) (P .none) (min u e)
+    least-past e t u h l = ap (least (may-split P k) (sides P k s e) (P .none)) (omega arith)
+
+    pub sums-skip : (t : ℕ) (sums : List ℕ) → (MaySplit P k t → ⊥) → Sums P slots k s t sums → Sums P slots k s (t + 1) sums
+    sums-skip t sums n w e l =
+        on-le e t (λ h. w e l ∙ least-past e t (t + 1) h (omega arith))
+        (λ h.
+        let now : min (t + 1) e ≡ t + 1 = omega arith in
+        let before : min t e ≡ t = omega arith in
+        rw now (w e l ∙ rw before (sym (least-skip (may-split P k) (sides P k s e) (P .none) t (may-not-split t n)))))
+
+    pub sums-lower : (t row base : ℕ) (table old new : List ℕ) → MaySplit P k t → base ≡ value P k s t
+        → ((e : ℕ) → t < e → e ≤ slots + 2 → at table (row + e) ≡ value P k (t + 1) e)
+        → Sums P slots k s t old → Written itself (t + 1) (slots + 3) (lowered old table row base) old new
+        → Sums P slots k s (t + 1) new
+    sums-lower t row base table old new m b right w v e l =
+        on-le e t
+        (λ h. v .outside e (λ x y z q. omega arith) ∙ w e l ∙ least-past e t (t + 1) h (omega arith))
+        (λ h.
+        let now : min (t + 1) e ≡ t + 1 = omega arith in
+        let before : min t e ≡ t = omega arith in
+        rw now
+        (omega (
+          arith,
+          v .inside e (omega arith) (omega arith),
+          rw before at (w e l),
+          least-pass (may-split P k) (sides P k s e) (P .none) t (may-split-intro P k t m),
+          sides-is P k s e t,
+          rw add-one at (right e h l),
+        )))
+
+    -- at its deadline the sums are the values of the next level
+    pub sums-value : (e : ℕ) (sums : List ℕ) → s ≤ P .release k → P .release k < e → e ≤ slots + 2
+        → Sums P slots k s (P .deadline k) sums → at sums e ≡ value P (k + 1) s e
+    sums-value e sums h r l w =
+        w e l
+        ∙ sym (least-none-pass (may-split P k) (sides P k s e) (P .none) (min (P .deadline k) e) e (omega arith)
+        (λ t z u. may-not-split t (λ m. omega (arith, m .high))))
+        ∙ rw add-one (sym (value-in P k s e (h, r)))

@@ -1,0 +1,168 @@
+-- `planner::fill::add_splits` meets its contract: the sums are the least over the splits passed. Assumes nothing.
+use Prim.Native.Nat.{_+_, _-_, _≤_, _<_}
+use mathlib.Core.Path.{_≡_, refl, ap, _∙_}
+use mathlib.Core.Logic.{⊎-elim}
+use native.Mathlib.Omega.{arith}
+use lib.ListN.{length}
+use denote.Ref.{now}
+use Rattle.day.specs.Windows.{at}
+use Rattle.planner.specs.Jobs.{jobs}
+use borrow.Author.Needs.{needs}
+use Rattle.planner.proofs.Table.{row-below}
+use Rattle.planner.proofs.Level.{level-read}
+use Rattle.planner.proofs.Jobs.{splits-unmarked, splits-not-marked, values-fit}
+use Rattle.planner.proofs.Sums.{Sums, sums-none, sums-skip, sums-lower, sums-value}
+use Rattle.planner.proofs.fill.add_splits.Statement.{statement}
+use Rattle.planner.proofs.fill.add_splits.Tie as tie
+
+abbrev Inv-loop : tie.InvT-loop
+Inv-loop day rel dead lowest job from table sums₀ width deadline split₀ sums split = (at rel job ≤ split) × (split ≤ deadline) × (deadline ≤ day .slots + 1) × (length sums ≡ length sums₀) × Sums (jobs day rel dead) (day .slots) job from split sums
+
+abbrev μ-loop : tie.MeasureT-loop
+μ-loop day rel dead lowest job from table sums₀ width deadline split₀ sums split = deadline - split
+
+wide-requires : tie.Need-wide-requires Inv-loop μ-loop
+wide-requires c κs = search needs
+
+add-width : tie.Need-add-width Inv-loop μ-loop
+add-width c = omega arith
+
+mul-wide : tie.Need-mul-wide Inv-loop μ-loop
+mul-wide c = omega arith
+
+shared-slice-read-wide : tie.Need-shared-slice-read-wide Inv-loop μ-loop
+shared-slice-read-wide c = omega arith
+
+wide-requires-2 : tie.Need-wide-requires-2 Inv-loop μ-loop
+wide-requires-2 c κs = search needs
+
+mul-wide-2 : tie.Need-mul-wide-2 Inv-loop μ-loop
+mul-wide-2 c = omega arith
+
+shared-slice-read-wide-2 : tie.Need-shared-slice-read-wide-2 Inv-loop μ-loop
+shared-slice-read-wide-2 c = omega arith
+
+wide-requires-3 : tie.Need-wide-requires-3 Inv-loop μ-loop
+wide-requires-3 c κs = search needs
+
+loop-holds : tie.Need-loop-holds Inv-loop μ-loop
+loop-holds c =
+    let p = c .before .before .before .before .before .before .before .before .before .before .pre .0 in
+    let a = c .before .before .before .before .before .before .before .before .before .before .args in (
+      omega arith,
+      omega (arith, p .window (a .job) (omega arith)),
+      omega (arith, p .in-day (a .job) (omega arith)),
+      refl,
+      rw (c .wide3 .ensures .0) (sums-none (jobs (a .day) (now (a .rel)) (now (a .dead))) (a .job) (a .day .slots) (a .from) (now (a .sums)) (c .before .before .before .before .before .before .before .before .before .before .pre .1 .1 .1)),
+    )
+
+mul-wide-3 : tie.Need-mul-wide-3 Inv-loop μ-loop
+mul-wide-3 c = omega arith
+
+shared-slice-read-wide-3 : tie.Need-shared-slice-read-wide-3 Inv-loop μ-loop
+shared-slice-read-wide-3 c = omega arith
+
+wide-requires-4 : tie.Need-wide-requires-4 Inv-loop μ-loop
+wide-requires-4 c κs = search needs
+
+add-next : tie.Need-add-next Inv-loop μ-loop
+add-next c = omega arith
+
+value-at-requires : tie.Need-value-at-requires Inv-loop μ-loop
+value-at-requires c κs = (omega arith, omega arith, (omega arith, omega arith), omega arith)
+
+row-of-requires : tie.Need-row-of-requires Inv-loop μ-loop
+row-of-requires c κs = search needs
+
+lower-requires : tie.Need-lower-requires Inv-loop μ-loop
+lower-requires c κs =
+    let a = c .before .before .before .before .before .before .before .before .before .before .before .before .before .before .before .before .before .before .args in
+    let slots = a .day .slots in
+    let split = c .before .before .before .before .before .before .before .loop .split in
+    let P = jobs (a .day) (now (a .rel)) (now (a .dead)) in
+    let level = c .before .before .before .before .before .before .before .before .before .before .before .before .before .before .before .before .before .before .pre .1 .0 .1 in
+    let fits = values-fit (a .day) (now (a .rel)) (now (a .dead)) (now (a .lowest)) (a .job + 1) (c .before .before .before .before .before .before .before .before .before .before .before .before .before .before .before .before .before .before .pre .0) (a .job) in
+    let left = level (a .from) split (omega arith, omega arith) in (
+      (omega arith, omega arith, omega (arith, row-below slots (a .job) (a .job) (split + 1) (c .before .row-of .result) (omega arith) (omega arith) (c .before .row-of .ensures))),
+      λ e h l.
+          omega (
+            arith,
+            left,
+            fits (a .from) split,
+            level-read P slots (a .job) (split + 1) e (c .before .row-of .result) (now (a .table)) level (c .before .row-of .ensures) (h, omega arith),
+            fits (split + 1) e,
+          ),
+    )
+
+add-split : tie.Need-add-split Inv-loop μ-loop
+add-split c = omega arith
+
+loop-less : tie.Need-loop-less Inv-loop μ-loop
+loop-less c = omega arith
+
+loop-again : tie.Need-loop-again Inv-loop μ-loop
+loop-again c =
+    let a = c .before .before .before .before .before .before .before .before .before .before .before .before .before .before .before .args in
+    let l = c .before .before .before .before .loop in
+    let slots = a .day .slots in
+    let P = jobs (a .day) (now (a .rel)) (now (a .dead)) in
+    let p = c .before .before .before .before .before .before .before .before .before .before .before .before .before .before .before .pre .0 in
+    let level = c .before .before .before .before .before .before .before .before .before .before .before .before .before .before .before .pre .1 .0 .1 in (
+      omega arith,
+      omega arith,
+      l .inv .2,
+      ⊎-elim (λ w. ap length (w .7) ∙ w .4 .ensures .long ∙ l .inv .3) (λ w. ap length (w .1) ∙ l .inv .3) (c .if1 .came),
+      ⊎-elim
+          (λ w.
+          rw (w .7)
+          (sums-lower P (a .job) slots (a .from) (l .split) (w .2 .result) (w .1 .result) (now (a .table)) (l .sums) _
+          (splits-unmarked (a .day) (now (a .rel)) (now (a .dead)) (now (a .lowest)) (a .job + 1) p (a .job) (l .split) (omega arith) (omega arith) (omega arith) (omega arith))
+          (w .1 .ensures ∙ level (a .from) (l .split) (omega (arith, c .before .before .before .before .before .before .before .before .before .before .before .before .before .before .before .pre .1 .1 .0), omega arith))
+          (λ e h u. level-read P slots (a .job) (l .split + 1) e (w .2 .result) (now (a .table)) level (w .2 .ensures) (omega arith, u))
+          (l .inv .4) (rw (c .before .before .before .before .before .before .before .before .before .wide .ensures .0) at (w .4 .ensures))))
+          (λ w.
+          rw (w .1)
+          (sums-skip P (a .job) slots (a .from) (l .split) (l .sums)
+          (splits-not-marked (a .day) (now (a .rel)) (now (a .dead)) (now (a .lowest)) (a .job + 1) p (a .job) (l .split) (omega arith) (omega arith) (omega arith))
+          (l .inv .4)))
+          (c .if1 .came),
+    )
+
+same-length : tie.Need-same-length Inv-loop μ-loop
+same-length c = c .before .loop .inv .3
+
+returns : tie.Need-returns Inv-loop μ-loop
+returns c =
+    let a = c .before .before .before .before .before .before .before .before .before .before .before .before .args in
+    let e : c .before .loop .split ≡ at (now (a .dead)) (a .job) = omega arith in (
+      c .before .loop .inv .3,
+      λ x h l. sums-value (jobs (a .day) (now (a .rel)) (now (a .dead))) (a .job) (a .day .slots) (a .from) x (c .before .loop .sums) (omega arith) h l (rw e at (c .before .loop .inv .4)),
+    )
+
+pub add-splits-spec : {M : Type 1} → statement M
+add-splits-spec =
+    tie.close
+    (tie.spec
+    Inv-loop
+    μ-loop
+    wide-requires
+    add-width
+    mul-wide
+    shared-slice-read-wide
+    wide-requires-2
+    mul-wide-2
+    shared-slice-read-wide-2
+    wide-requires-3
+    loop-holds
+    mul-wide-3
+    shared-slice-read-wide-3
+    wide-requires-4
+    add-next
+    value-at-requires
+    row-of-requires
+    lower-requires
+    add-split
+    loop-less
+    loop-again
+    same-length
+    returns)

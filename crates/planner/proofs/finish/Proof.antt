@@ -1,0 +1,113 @@
+-- `planner::finish` meets its contract: the value of the whole day decides. Assumes nothing.
+use Prim.Native.Nat.{ℕ, _+_, _≤_, _<_}
+use mathlib.Core.Path.{_≡_, refl, ap, _∙_}
+use native.Mathlib.Omega.{arith}
+use lib.ListN.{length}
+use denote.Ref.{now}
+use Rattle.day.specs.Answer.{says, done}
+use Rattle.rule.specs.Whole.{without-ends}
+use borrow.Author.Needs.{needs}
+use Rattle.planner.proofs.Finished.{whole-read, whole-readable, whole-cleared, laid-of}
+use Rattle.planner.proofs.finish.Statement.{statement}
+use Rattle.planner.proofs.finish.Tie as tie
+
+wide-requires : tie.Need-wide-requires
+wide-requires c κs = search needs
+
+add-end : tie.Need-add-end
+add-end c = search needs
+
+need-of-requires : tie.Need-need-of-requires
+need-of-requires c κs = search needs
+
+fill-requires : tie.Need-fill-requires
+fill-requires c κs = search needs
+
+value-at-requires : tie.Need-value-at-requires
+value-at-requires c κs = search needs
+
+zero-first-requires : tie.Need-zero-first-requires
+zero-first-requires c κs = search needs
+
+of-requires : tie.Need-of-requires
+of-requires c κs = search needs
+
+same-length : tie.Need-same-length
+same-length c = search needs
+
+returns : tie.Need-returns
+returns c =
+    let a = c .before .before .before .before .before .before .before .before .before .before .before .before .before .before .before .before .before .before .before .before .args in
+    let end : c .before .before .before .before .before .before .before .before .before .before .before .before .before .wide .result + 2 ≡ a .day .slots + 2 = omega arith in
+    let v = whole-read (a .day) (now (a .rel)) (now (a .dead)) (length (now (a .order))) _ end (now (a .table)) _ (c .before .before .before .before .before .before .before .before .before .before .fill .ensures) (c .before .before .before .before .before .before .value-at .result) (c .before .before .before .before .before .before .value-at .ensures) in
+    record {
+      found = λ h. absurd (omega arith);
+      not-found = λ h. (c .of .ensures, refl);
+      cleared = whole-cleared (a .day) (now (a .rel)) (now (a .dead)) (length (now (a .order))) _ end (now (a .table)) _ (c .before .before .before .before .before .before .before .before .before .before .fill .ensures) _ _ (c .before .before .before .before .before .before .before .before .before .before .before .before .need-of .ensures) (c .before .before .before .zero-first .ensures);
+    }
+
+slice-aggregate-read-back : tie.Need-slice-aggregate-read-back
+slice-aggregate-read-back c = search needs
+
+read-back-requires : tie.Need-read-back-requires
+read-back-requires c κs =
+    let a = c .before .before .before .before .before .before .before .before .before .before .before .before .before .before .before .before .before .args in
+    let end : c .before .before .before .before .before .before .before .before .before .before .wide .result + 2 ≡ a .day .slots + 2 = omega arith in
+    let v = whole-read (a .day) (now (a .rel)) (now (a .dead)) (length (now (a .order))) _ end (now (a .table)) _ (c .before .before .before .before .before .before .before .fill .ensures) (c .before .before .before .value-at .result) (c .before .before .before .value-at .ensures) in
+    (whole-readable (a .day) (now (a .rel)) (now (a .dead)) (length (now (a .order))) _ end (now (a .table)) _ (c .before .before .before .before .before .before .before .fill .ensures) (now (a .lowest)) (c .before .before .before .before .before .before .before .before .before .before .before .before .before .before .before .before .before .pre .0) (c .before .before .before .before .before .before .before .before .before .before .before .before .before .before .before .before .before .pre .1 .0) (omega arith), omega (arith, c .before .before .before .before .before .before .before .before .before .before .before .before .before .before .before .before .before .pre .0 .few))
+
+slice-aggregate-write-out : tie.Need-slice-aggregate-write-out
+slice-aggregate-write-out c = search needs
+
+write-out-requires : tie.Need-write-out-requires
+write-out-requires c κs = search needs
+
+zero-first-requires-2 : tie.Need-zero-first-requires-2
+zero-first-requires-2 c κs = search needs
+
+without-ends-requires : tie.Need-without-ends-requires
+without-ends-requires c κs = omega (arith, c .before .before .before .before .before .before .before .before .before .before .before .before .before .before .before .before .before .before .before .before .before .before .before .before .before .before .before .before .pre .0 .wake)
+
+same-length-2 : tie.Need-same-length-2
+same-length-2 c = search needs
+
+same-length-3 : tie.Need-same-length-3
+same-length-3 c = search needs
+
+returns-2 : tie.Need-returns-2
+returns-2 c =
+    let a = c .before .before .before .before .before .before .before .before .before .before .before .before .before .before .before .before .before .before .before .before .before .before .before .before .before .before .before .before .before .args in
+    let n = length (now (a .order)) in
+    let end : c .before .before .before .before .before .before .before .before .before .before .before .before .before .before .before .before .before .before .before .before .before .before .wide .result + 2 ≡ a .day .slots + 2 = omega (arith, c .before .before .before .before .before .before .before .before .before .before .before .before .before .before .before .before .before .before .before .before .before .before .wide .ensures) in
+    let v = whole-read (a .day) (now (a .rel)) (now (a .dead)) n _ end (now (a .table)) _ (c .before .before .before .before .before .before .before .before .before .before .before .before .before .before .before .before .before .before .before .fill .ensures) (c .before .before .before .before .before .before .before .before .before .before .before .before .before .before .before .value-at .result) (c .before .before .before .before .before .before .before .before .before .before .before .before .before .before .before .value-at .ensures) in
+    record {
+      found = λ h. (
+        ap (λ (x : ℕ). says done x 0) (c .without-ends .ensures ∙ ap (without-ends (a .day) n) v),
+        laid-of (a .day) (now (a .rel)) (now (a .dead)) (now (a .lowest)) (now (a .order)) _ _ (now (a .starts)) _ n _ end (c .before .before .before .before .before .before .before .before .before .before .before .before .before .before .before .before .before .before .before .before .before .before .before .before .before .before .before .before .before .pre .0) (c .before .before .before .before .before .before .before .before .before .before .before .read-back .ensures) (c .before .before .before .before .before .before .before .write-out .ensures),
+      );
+      not-found = λ h. absurd (omega (arith, c .before .before .before .before .before .before .before .before .before .before .before .before .before .before .if1 .left));
+      cleared = whole-cleared (a .day) (now (a .rel)) (now (a .dead)) n _ end (now (a .table)) _ (c .before .before .before .before .before .before .before .before .before .before .before .before .before .before .before .before .before .before .before .fill .ensures) _ _ (c .before .before .before .before .before .before .before .before .before .before .before .before .before .before .before .before .before .before .before .before .before .need-of .ensures) (c .before .before .before .zero-first2 .ensures);
+    }
+
+pub finish-spec : {M : Type 1} → statement M
+finish-spec =
+    tie.close
+    (tie.spec
+    wide-requires
+    add-end
+    need-of-requires
+    fill-requires
+    value-at-requires
+    zero-first-requires
+    of-requires
+    same-length
+    returns
+    slice-aggregate-read-back
+    read-back-requires
+    slice-aggregate-write-out
+    write-out-requires
+    zero-first-requires-2
+    without-ends-requires
+    same-length-2
+    same-length-3
+    returns-2)

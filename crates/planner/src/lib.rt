@@ -1,0 +1,133 @@
+// The plan: checks, the cost table, read-back.
+mod back;
+mod fill;
+mod number;
+mod rows;
+
+ghost use mathlib.Core.Path.{_≡_};
+ghost use Prim.Native.Nat.{ℕ, _+_, _<_, _≤_};
+ghost use lib.ListN.{length};
+ghost use Rattle.day.specs.Windows.{at, windows};
+ghost use Rattle.day.specs.Check.{most-wake, Accepted};
+ghost use Rattle.rule.specs.Whole.{without-ends};
+ghost use Rattle.planner.specs.Table.{need};
+ghost use Rattle.planner.specs.Jobs.{Prepared};
+ghost use Rattle.planner.specs.Finished.{Finished};
+ghost use Rattle.planner.specs.Promise.{Never, PlanCheck, Planned};
+use day::Answer;
+use day::Day;
+use day::code;
+use day::wide;
+
+// What the whole day costs by its value: the two wakes at the far ends come off, save with no jobs.
+fn without_ends(day: Day, count: usize, value: u16) -> u16
+    requires { ⌜ day .power .wake ≤ most-wake ⌝ }
+    ensures { λ r. ⌜ r ≡ without-ends day count value ⌝ }
+{
+    if count == 0 {
+        return 0;
+    }
+    let ends = day.power.wake + day.power.wake;
+    if value < ends {
+        return 0;
+    }
+    value - ends
+}
+
+// Plans jobs that are in number order: fills the table, reads the plan back if there is one, and sets the table to zero.
+fn finish(
+    day: Day,
+    rel: &[u16],
+    dead: &[u16],
+    lowest: &[u16],
+    order: &[usize],
+    starts: &mut [u16],
+    table: &mut [u16],
+) -> Answer
+    requires { ⌜ Prepared day (now rel) (now dead) (now lowest) (length (now order)) ⌝ }
+    requires { ⌜ need (day .slots) (length (now order)) ≤ length (now table) ⌝ }
+    requires { ⌜ ((k : ℕ) → k < length (now order) → at (now order) k < length (now starts)) ⌝ }
+    requires { ⌜ ((k l : ℕ) → k < l → l < length (now order) → at (now order) k ≡ at (now order) l → ⊥) ⌝ }
+    ensures { λ a. ⌜ Finished day (now (rel .entry)) (now (dead .entry)) (now (order .entry)) (length (now (order .entry))) (now (starts .entry)) (now (table .entry)) a (now (starts .exit)) (now (table .exit)) ⌝ }
+{
+    let count = order.len();
+    let end = wide(day.slots) + 2;
+    let needed = rows::need_of(day.slots, count);
+    fill::fill(day, rel, dead, lowest, count, &mut *table);
+    let value = rows::value_at(&*table, day.slots, count, 0, end);
+    if value >= fill::NONE {
+        day::zero_first(table, needed);
+        return Answer::of(code::NO_PLAN);
+    }
+    let mut numbered = [0u16; 40];
+    back::read_back(
+        count,
+        0,
+        end,
+        day,
+        rel,
+        dead,
+        lowest,
+        &*table,
+        &mut numbered,
+    );
+    back::write_out(starts, order, &numbered);
+    day::zero_first(table, needed);
+    let cost = without_ends(day, count, value);
+    Answer {
+        code: code::DONE,
+        first: cost,
+        second: 0,
+    }
+}
+
+// Plans a list that the checks accept; `order` has a place for each row.
+fn solve(
+    day: Day,
+    releases: &[u16],
+    deadlines: &[u16],
+    order: &mut [usize],
+    starts: &mut [u16],
+    table: &mut [u16],
+) -> Answer
+    requires { ⌜ Accepted day (windows (now releases) (now deadlines)) ⌝ }
+    requires { ⌜ (length (now order) ≡ length (now releases)) × (length (now releases) ≤ length (now starts)) ⌝ }
+    requires { ⌜ need (day .slots) (length (now releases)) ≤ length (now table) ⌝ }
+    ensures { λ a. ⌜ Planned Never (need (day .slots) (length (now (releases .entry)))) day (windows (now (releases .entry)) (now (deadlines .entry))) (now (starts .entry)) (now (table .entry)) a (now (starts .exit)) (now (table .exit)) ⌝ }
+{
+    day::number_rows(deadlines, &mut *order);
+    let mut rel = [0u16; 40];
+    number::by_number(releases, &*order, &mut rel);
+    let mut dead = [0u16; 40];
+    number::by_number(deadlines, &*order, &mut dead);
+    let mut lowest = [day::MOST_JOBS; 99];
+    number::mark_lowest(&rel, releases.len(), &mut lowest);
+    finish(day, &rel, &dead, &lowest, &*order, starts, table)
+}
+
+// Plans one-slot jobs, given as separate lists of releases and deadlines, at least cost. On code 0 the first number is the cost and the
+// starts are the best plan's, in row order; on 7 there is no proper plan. The needed places of the table are zero then. Under any
+// other code nothing changes.
+pub fn plan(
+    day: Day,
+    releases: &[u16],
+    deadlines: &[u16],
+    starts: &mut [u16],
+    table: &mut [u16],
+) -> Answer
+    ensures { λ a. ⌜ Planned (PlanCheck day (windows (now (releases .entry)) (now (deadlines .entry))) (now (starts .entry)) (now (table .entry))) (need (day .slots) (length (now (releases .entry)))) day (windows (now (releases .entry)) (now (deadlines .entry))) (now (starts .entry)) (now (table .entry)) a (now (starts .exit)) (now (table .exit)) ⌝ }
+{
+    let checked = day::check_list(day, releases, deadlines);
+    if checked.code != code::DONE {
+        return checked;
+    }
+    let count = releases.len();
+    if starts.len() < count {
+        return Answer::of(code::FEW_STARTS);
+    }
+    if table.len() < rows::need_of(day.slots, count) {
+        return Answer::of(code::SHORT_TABLE);
+    }
+    let mut order = [0usize; 40];
+    solve(day, releases, deadlines, &mut order[..count], starts, table)
+}
