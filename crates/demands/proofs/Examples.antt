@@ -1,0 +1,180 @@
+-- P1 to P10 hold: one computed test over the table, and a law that turns it into what each row says. Assumes nothing.
+use Prim.Native.Nat.{ℕ, suc, _≤_, _<_}
+use mathlib.Core.Path.{_≡_, refl, sym, _∙_, ap, subst}
+use mathlib.Core.List.{List, [], _∷_, _++_, map}
+use mathlib.Core.Logic.{_⊎_, inl, inr, ⊎-elim}
+use native.Mathlib.Omega.{arith}
+use lib.ListN.{length, drop, length-map}
+use lib.Seq.{ext-getD}
+use Rattle.day.specs.declared.Answer.{Answer}
+use Rattle.day.specs.declared.Day.{Day}
+use Rattle.day.specs.Windows.{Windows, windows, at}
+use Rattle.day.specs.Plan.{NoPlan, taken}
+use Rattle.day.specs.Gap.{price, ended, gaps-since, gaps, total, cost}
+use Rattle.day.specs.Far.{far-price}
+use Rattle.day.specs.Best.{Best}
+use Rattle.day.specs.Answer.{says, done, short-table, no-plan}
+use Rattle.day.specs.Check.{Accepted}
+use Rattle.day.proofs.Cases.{give}
+use Rattle.day.proofs.Gap.{cost-agree}
+use Rattle.rule.specs.Extreme.{least, latest}
+use Rattle.rule.specs.Span.{in-span, clear, may-split, value-by, value, sides, best-split, split, read-back}
+use Rattle.planner.specs.Table.{need}
+use Rattle.demands.specs.Run.{Run, list, Promised, Served}
+use Rattle.demands.specs.BestPlan.{BestGiven}
+use Rattle.demands.specs.Examples.{Amount, exactly, up-to, at-least, Is, Example, Plans, Shows, Holds, examples, ExamplesHold}
+use Rattle.demands.proofs.Test.{Test, less, at-most, equal, fails, both, either, through, all-below, all-in}
+use Rattle.demands.proofs.Computed.{accepted-test, number, row, best-test, no-plan-test}
+use Rattle.demands.proofs.BestPlan.{best-or-none, short-given}
+
+-- what is known of an example, with a day and its list
+
+record HasBest (e : Example) (day : Day) (w : Windows) : Type 0 where
+  code : e .code ≡ done
+  accepted : Accepted day w
+  best : Best day w (at (e .starts))
+  long : length (e .starts) ≡ w .count
+  first : cost day (w .count) (at (e .starts)) ≡ e .first
+  table : (x : ℕ) → Is (e .places) x → need (day .slots) (w .count) ≤ x
+
+record HasNone (e : Example) (day : Day) (w : Windows) : Type 0 where
+  code : e .code ≡ no-plan
+  accepted : Accepted day w
+  none : NoPlan w
+  starts : length (e .starts) ≡ 0
+  first : e .first ≡ 0
+  table : (x : ℕ) → Is (e .places) x → need (day .slots) (w .count) ≤ x
+
+record HasShort (e : Example) (day : Day) (w : Windows) : Type 0 where
+  code : e .code ≡ short-table
+  accepted : Accepted day w
+  starts : length (e .starts) ≡ 0
+  first : e .first ≡ 0
+  table : (x : ℕ) → Is (e .places) x → x < need (day .slots) (w .count)
+
+abbrev Known : Example → Day → Windows → Type 0
+Known e day w = HasBest e day w ⊎ (HasNone e day w ⊎ HasShort e day w)
+
+-- one test for each number that an amount allows
+abbrev each-amount : {P : ℕ → Type 0} → ((x : ℕ) → Test (P x)) → (m : Amount) → Test ((x : ℕ) → Is m x → P x)
+each-amount t (exactly n) = through (λ p x q. rw q p) (t n)
+each-amount t (up-to n) = through (λ f x q. f x (omega arith)) (all-below t (suc n))
+each-amount t (at-least n) = fails
+
+-- all that an amount allows is enough
+abbrev enough : (least : ℕ) (m : Amount) → Test ((x : ℕ) → Is m x → least ≤ x)
+enough least (exactly n) = each-amount (at-most least) (exactly n)
+enough least (up-to n) = fails
+enough least (at-least n) = through (λ l x q. omega (arith, q)) (at-most least n)
+
+known-test : (e : Example) (day : Day) (w : Windows) → Test (Known e day w)
+known-test e day w =
+    either
+    (through
+    (λ t.
+    record { code = t .0 .0; table = t .0 .1; accepted = t .1 .0 .0; best = t .1 .0 .1; long = t .1 .1 .0; first = t .1 .1 .1 })
+    (both (both (equal (e .code) done) (enough (need (day .slots) (w .count)) (e .places)))
+    (both (best-test day w (at (e .starts)))
+    (both (equal (length (e .starts)) (w .count)) (equal (cost day (w .count) (at (e .starts))) (e .first))))))
+    (either
+    (through
+    (λ t.
+    record { code = t .0 .0; table = t .0 .1; accepted = t .1 .0 .0; none = t .1 .0 .1; starts = t .1 .1 .0; first = t .1 .1 .1 })
+    (both (both (equal (e .code) no-plan) (enough (need (day .slots) (w .count)) (e .places)))
+    (both (no-plan-test day w) (both (equal (length (e .starts)) 0) (equal (e .first) 0)))))
+    (through (λ t. record { code = t .0 .0; table = t .0 .1; accepted = t .1 .0; starts = t .1 .1 .0; first = t .1 .1 .1 })
+    (both (both (equal (e .code) short-table) (each-amount (λ x. less x (need (day .slots) (w .count))) (e .places)))
+    (both (accepted-test day w) (both (equal (length (e .starts)) 0) (equal (e .first) 0))))))
+
+-- a list whose first places are set to xs
+front-replaced : (xs old new : List ℕ) → length new ≡ length old → length xs ≤ length old
+    → ((i : ℕ) → i < length xs → at new i ≡ at xs i)
+    → ((i : ℕ) → length xs ≤ i → at new i ≡ at old i)
+    → new ≡ xs ++ drop (length xs) old
+front-replaced [] old new same room front rest = ext-getD 0 new old same (λ i l. rest i (omega arith))
+front-replaced (x ∷ xs) [] new same room front rest = absurd (omega arith)
+front-replaced (x ∷ xs) (o ∷ old) [] same room front rest = absurd (omega arith)
+front-replaced (x ∷ xs) (o ∷ old) (n ∷ new) same room front rest =
+    let head : n ≡ x = front 0 (omega arith) in
+    let tail : new ≡ xs ++ drop (length xs) old =
+    front-replaced xs old new (omega arith) (omega arith) (λ i l. front (suc i) (omega arith)) (λ i l. rest (suc i) (omega arith))
+    in
+    cc
+
+-- nothing is set
+none-replaced : (xs old : List ℕ) → length xs ≡ 0 → old ≡ xs ++ drop (length xs) old
+none-replaced [] old e = refl
+none-replaced (x ∷ xs) old e = absurd (omega arith)
+
+module _ (e : Example) (run : Run) (plans : Plans e run) (promised : Promised run) where
+  room : list run .count ≤ length (run .starts)
+  room = omega (arith, ap length (plans .releases), length-map (e .jobs) (λ j. j .0), plans .room)
+
+  served : Accepted (run .day) (list run) → need (run .day .slots) (list run .count) ≤ length (run .table) → Served run
+  served accepted table =
+      record { promised = promised; taken = record { accepted = accepted; places = room; table = table } }
+
+  best-shown : HasBest e (run .day) (list run) → BestGiven run → Shows e run
+  best-shown known given =
+      give (given .only (at (e .starts)) (known .best))
+      (λ same.
+      record {
+        answer =
+            given .answer
+            ∙ ap (λ c. says done c 0)
+            (cost-agree (run .day) (list run .count) (at (run .starts-after)) (at (e .starts)) same ∙ known .first)
+            ∙ ap (λ c. says c (e .first) 0) (sym (known .code));
+        starts =
+            front-replaced (e .starts) (run .starts) (run .starts-after) (given .long) (omega (arith, known .long, room))
+            (λ i l. same i (omega (arith, known .long)))
+            (λ i l. given .rest i (omega (arith, known .long)));
+      })
+
+  refused-shown : run .answer ≡ says (e .code) 0 0 → e .first ≡ 0 → length (e .starts) ≡ 0 → run .starts-after ≡ run .starts
+      → Shows e run
+  refused-shown answer first none kept =
+      record {
+        answer = answer ∙ ap (λ x. says (e .code) x 0) (sym first);
+        starts = kept ∙ none-replaced (e .starts) (run .starts) none;
+      }
+
+  shown : Known e (run .day) (list run) → Shows e run
+  shown (inl known) =
+      ⊎-elim (best-shown known) (λ given. absurd (given .none (at (e .starts)) (known .best .proper)))
+      (best-or-none run (served (known .accepted) (known .table (length (run .table)) (plans .places))))
+  shown (inr (inl known)) =
+      ⊎-elim (λ given. absurd (known .none (at (run .starts-after)) (given .best .proper)))
+      (λ given.
+      refused-shown (given .answer ∙ ap (λ c. says c 0 0) (sym (known .code))) (known .first) (known .starts) (given .starts))
+      (best-or-none run (served (known .accepted) (known .table (length (run .table)) (plans .places))))
+  shown (inr (inr known)) =
+      give (short-given run promised (known .accepted) room (known .table (length (run .table)) (plans .places)))
+      (λ answer.
+      refused-shown (answer ∙ ap (λ c. says c 0 0) (sym (known .code))) (known .first) (known .starts)
+      (promised .unplanned (λ code. omega (arith, ap (λ (a : Answer). a .code) answer))))
+
+abbrev day-at : Example → ℕ → Day
+day-at e wake = record { slots = e .slots; power = record { wake = wake } }
+
+abbrev list-of : Example → Windows
+list-of e = windows (map (λ j. j .0) (e .jobs)) (map (λ j. j .1) (e .jobs))
+
+same-day : (e : Example) (run : Run) → Plans e run → day-at e (run .day .power .wake) ≡ run .day
+same-day e run plans = ap (λ (slots : ℕ). record { slots = slots; power = run .day .power }) (sym (plans .slots))
+
+same-list : (e : Example) (run : Run) → Plans e run → list-of e ≡ list run
+same-list e run plans = rw (plans .releases, plans .deadlines)
+
+example-test : (e : Example) → Test (Holds e)
+example-test e =
+    through
+    (λ known run plans promised.
+    shown e run plans promised
+    (subst (λ (d : Day). Known e d (list run)) (same-day e run plans)
+    (subst (Known e (day-at e (run .day .power .wake))) (same-list e run plans)
+    (known (run .day .power .wake) (plans .wake)))))
+    (each-amount (λ wake. known-test e (day-at e wake) (list-of e)) (e .wake))
+
+pub examples-hold : ExamplesHold
+unfolding examples example-test known-test best-test no-plan-test need number row latest least in-span clear may-split value-by value far-price price sides best-split split read-back cost total gaps gaps-since ended taken
+examples-hold = all-in example-test examples .shows refl

@@ -1,0 +1,13 @@
+-- The proofs of the demands, each under the name of its statement in specs/. Test and Computed are the examples' computed test.
+pub mod BestPlan
+pub mod DayFile
+pub mod Joined
+pub mod SideBySide
+pub mod Mirrored
+pub mod Moving
+pub mod Test
+pub mod Computed
+pub mod Examples
+pub mod OneOutcome
+pub mod Impostors
+pub mod Demands

@@ -1,0 +1,64 @@
+-- Two outcomes that satisfy a promise are equal, cited from the crates that make the promises. Assumes nothing.
+use Prim.Native.Nat.{ℕ}
+use mathlib.Core.Path.{_≡_, sym, _∙_}
+use mathlib.Core.List.{List}
+use native.Mathlib.Omega.{arith}
+use Rattle.day.specs.declared.Answer.{Answer}
+use Rattle.day.specs.declared.Day.{Day}
+use Rattle.day.specs.Windows.{Windows}
+use Rattle.day.specs.Refusal.{_then_, Passed, FirstOrEnd}
+use Rattle.day.proofs.Cases.{give, on-le}
+use Rattle.day.proofs.Refusal.{IsCheck, then-unique, then-is-check, refuses-is-check}
+use Rattle.day.proofs.Check.{slots-is-check, power-is-check, jobs-is-check, list-is-check}
+use Rattle.day.proofs.Numbering.{numbering-unique}
+use Rattle.planner.specs.Table.{need}
+use Rattle.planner.specs.Promise.{PlanCheck}
+use Rattle.planner.proofs.Promise.{planned-unique}
+use Rattle.claim.proofs.Promise.{priced-unique, judged-unique, chosen-unique, handed-unique}
+use Rattle.moving.proofs.Unique.{moved-list-unique}
+use Rattle.dayfile.proofs.Unique.{read-unique, written-unique}
+use Rattle.demands.specs.OneOutcome.{AtMostOne, OneOutcome}
+
+-- a check that passes or refuses
+check-unique : {Check : Answer → Type 0} → IsCheck Check → AtMostOne (Check then Passed)
+check-unique check = then-unique check (λ a b p q. p ∙ sym q)
+
+first-or-end-unique : {n : ℕ} {Fault : ℕ → Type 0} → AtMostOne (FirstOrEnd n Fault)
+first-or-end-unique i j p q =
+    on-le i j
+    (λ h. on-le j i (λ l. omega arith) (λ l. absurd (q .lowest i l (p .fault (omega (arith, q .within))))))
+    (λ h. absurd (p .lowest j h (q .fault (omega (arith, p .within)))))
+
+plan-is-check : (day : Day) (w : Windows) (starts table : List ℕ) → IsCheck (PlanCheck day w starts table)
+plan-is-check day w starts table =
+    then-is-check list-is-check (then-is-check (refuses-is-check (λ e. omega arith)) (refuses-is-check (λ e. omega arith)))
+
+both-same : {A B : Type 0} (x y : A × B) → x .0 ≡ y .0 → x .1 ≡ y .1 → x ≡ y
+both-same x y a b = rw (a, b)
+
+all-same : {A B C : Type 0} (x y : A × B × C) → x .0 ≡ y .0 → x .1 ≡ y .1 → x .2 ≡ y .2 → x ≡ y
+all-same x y a b c = rw (a, b, c)
+
+pub one-outcome : OneOutcome
+one-outcome =
+    record {
+      check-slots = λ limit slots. check-unique slots-is-check;
+      check-power = λ power. check-unique power-is-check;
+      check-rows = λ limit slots w. check-unique jobs-is-check;
+      check-list = λ day w. check-unique list-is-check;
+      number-rows = numbering-unique;
+      plan = λ day w starts table x y p q.
+          give
+          (planned-unique (PlanCheck day w starts table) (need (day .slots) (w .count)) day w starts table
+          (plan-is-check day w starts table) (x .0) (y .0) (x .1) (x .2) (y .1) (y .2) p q)
+          (λ s. all-same x y (s .0) (s .1) (s .2));
+      judge = judged-unique;
+      price = priced-unique;
+      which = chosen-unique;
+      choose = handed-unique;
+      first-job = λ rows. first-or-end-unique;
+      move-list = λ slots by releases deadlines x y p q.
+          give (moved-list-unique p q) (λ s. all-same x y (s .0) (s .1) (s .2));
+      read = λ file releases deadlines x y p q. give (read-unique p q) (λ s. all-same x y (s .0) (s .1) (s .2));
+      write = λ notes day releases deadlines file x y p q. give (written-unique p q) (λ s. both-same x y (s .0) (s .1));
+    }

@@ -1,0 +1,12 @@
+-- What the customer asked. Read Run first: what goes into the planner and what comes out. Demands lists all statements; each says what holds of
+-- every run that keeps a promise, and no program is mentioned. The proofs stand in proofs/ under the same names.
+pub mod Run
+pub mod BestPlan
+pub mod DayFile
+pub mod SideBySide
+pub mod Mirrored
+pub mod Moving
+pub mod Examples
+pub mod OneOutcome
+pub mod Impostors
+pub mod Demands

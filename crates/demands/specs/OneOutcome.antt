@@ -1,0 +1,56 @@
+-- Two outcomes that satisfy a promise are equal. A field for each function that another crate can call, save where the promise is an equation
+-- for all that comes out. An outcome is what comes back and what the lent lists hold afterwards.
+use Prim.Native.Nat.{ℕ}
+use mathlib.Core.Path.{_≡_}
+use mathlib.Core.List.{List}
+use lib.ListN.{length}
+use lib.IntN.{ℤ}
+use denote.Ref.{RefT}
+use Rattle.day.specs.declared.Answer.{Answer}
+use Rattle.day.specs.declared.Power.{Power}
+use Rattle.day.specs.declared.Day.{Day}
+use Rattle.day.specs.Windows.{Windows}
+use Rattle.day.specs.Refusal.{_then_, Passed, FirstOrEnd}
+use Rattle.day.specs.Check.{SlotsCheck, PowerCheck, JobsCheck, ListCheck}
+use Rattle.day.specs.Numbering.{Numbering}
+use Rattle.planner.specs.Table.{need}
+use Rattle.planner.specs.Promise.{PlanCheck, Planned}
+use Rattle.claim.specs.Claim.{ClaimCheck, Priced}
+use Rattle.claim.specs.Rows.{HoldsJob, Judged}
+use Rattle.claim.specs.Choice.{Chosen, HandedBack}
+use Rattle.claim.proofs.Promise.{SamePart}
+use Rattle.moving.specs.Moving.{MovedList}
+use Rattle.dayfile.specs.declared.Reading.{Reading}
+use Rattle.dayfile.specs.Reader.{Read}
+use Rattle.dayfile.specs.Writer.{Written}
+
+abbrev pub AtMostOne : {A : Type 0} → (A → Type 0) → Type 0
+AtMostOne {A} Promise = (x y : A) → Promise x → Promise y → x ≡ y
+
+pub record OneOutcome : Type 0 where
+  -- day
+  pub check-slots : (limit slots : ℕ) → AtMostOne (SlotsCheck limit slots then Passed)
+  pub check-power : (power : Power) → AtMostOne (PowerCheck power then Passed)
+  pub check-rows : (limit slots : ℕ) (w : Windows) → AtMostOne (JobsCheck limit slots w then Passed)
+  pub check-list : (day : Day) (w : Windows) → AtMostOne (ListCheck day w then Passed)
+  pub number-rows : (deadlines order : List ℕ) → AtMostOne (Numbering deadlines order)
+  -- planner
+  pub plan : (day : Day) (w : Windows) (starts table : List ℕ)
+      → AtMostOne {A = Answer × List ℕ × List ℕ}
+      (λ o.
+      Planned (PlanCheck day w starts table) (need (day .slots) (w .count)) day w starts table (o .0) (o .1) (o .2))
+  -- claim
+  pub judge : (day : Day) (w : Windows) (starts : List ℕ) → AtMostOne (Judged (ClaimCheck day w starts) w starts)
+  pub price : (day : Day) (w : Windows) (starts : List ℕ) → AtMostOne (Priced day w starts)
+  pub which : (day : Day) (w : Windows) (own server : List ℕ) → AtMostOne (Chosen day w own server)
+  pub choose : (day : Day) (w : Windows) (own server part other : RefT (List ℕ)) → HandedBack day w own server part
+      → HandedBack day w own server other → SamePart part other
+  pub first-job : (rows : List ℕ) → AtMostOne (FirstOrEnd (length rows) (HoldsJob rows))
+  -- moving
+  pub move-list : (slots : ℕ) (by : ℤ) (releases deadlines : List ℕ)
+      → AtMostOne {A = Answer × List ℕ × List ℕ} (λ o. MovedList slots by releases deadlines (o .0) (o .1) (o .2))
+  -- dayfile
+  pub read : (file releases deadlines : List ℕ)
+      → AtMostOne {A = Reading × List ℕ × List ℕ} (λ o. Read file releases deadlines (o .0) (o .1) (o .2))
+  pub write : (notes : ℕ) (day : Day) (releases deadlines file : List ℕ)
+      → AtMostOne {A = Answer × List ℕ} (λ o. Written notes day releases deadlines file (o .0) (o .1))
