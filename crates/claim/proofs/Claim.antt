@@ -104,3 +104,13 @@ pub priced-unfit : (day : Day) (w : Windows) (starts : List ℕ) (a : Answer) �
     → (a .code ≡ done → ⊥) → Fit w starts → ⊥
 priced-unfit day w starts a (stops p) e fit = fit-clear w starts fit a p
 priced-unfit day w starts a (goes-on clear p) e fit = e (ap (λ (x : Answer). x .code) p)
+
+-- so is the list of a plan that was judged and not refused
+pub judged-accepted : (day : Day) (w : Windows) (starts : List ℕ) (a : Answer) → (ClaimCheck day w starts then Passed) a → a .code ≡ done
+    → Accepted day w
+judged-accepted day w starts a p e = clear-accepted (clear-first (passed-clear (claim-is-check day w starts) a p e))
+
+-- a check that passed answers with nothing else
+pub passed-says : {Check : Answer → Type 0} → IsCheck Check → (a : Answer) → (Check then Passed) a → a .code ≡ done → Passed a
+passed-says check a (stops p) e = absurd (check .not-done a p e)
+passed-says check a (goes-on clear p) e = p

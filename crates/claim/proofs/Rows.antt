@@ -57,17 +57,21 @@ unfolding holds-job
 holds-job-false rows t h = rw (eq-eqb (at rows t) 0 h)
 
 -- a slot holds a job exactly if one of the rows takes it
-row-at-taken : (n : ℕ) (start : Plan) (t : ℕ) → not (eqb (row-at n start t) 0) ≡ taken n start t
+pub row-at-taken : (n : ℕ) (start : Plan) (t : ℕ) → not (eqb (row-at n start t) 0) ≡ taken n start t
 unfolding row-at taken
 row-at-taken zero start t = refl
 row-at-taken (suc n) start t =
     on-eq (start n) t (λ e. rw (eq-eqb (start n) t e, eqb·suc-zero n)) (λ e. rw (ne-eqb (start n) t e) (row-at-taken n start t))
 
+-- the rows of a day's slots, slot by slot
+pub rows-each : {n : ℕ} {start : Plan} {rows : List ℕ} → RowsBySlot n start rows → (m t : ℕ) → m ≤ most-slots → t < m
+    → at (take m rows) t ≡ row-at n start t
+rows-each {n} {start} {rows} r m t within h = getD-take m rows t 0 h ∙ r .each t (omega arith)
+
 pub holds-taken : {n : ℕ} {start : Plan} {rows : List ℕ} → RowsBySlot n start rows → (m t : ℕ) → m ≤ most-slots → t < m
     → holds-job (take m rows) t ≡ taken n start t
 unfolding holds-job
-holds-taken {n} {start} {rows} r m t within h =
-    rw (getD-take m rows t 0 h, r .each t (omega arith)) (row-at-taken n start t)
+holds-taken {n} {start} {rows} r m t within h = rw (rows-each r m t within h) (row-at-taken n start t)
 
 -- the rows of a day's slots are as many as the slots
 pub rows-cut : {n : ℕ} {start : Plan} {rows : List ℕ} → RowsBySlot n start rows → (m : ℕ) → m ≤ most-slots → length (take m rows) ≡ m

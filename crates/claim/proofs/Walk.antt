@@ -38,6 +38,20 @@ gaps-skip full (suc k) t s m e none =
     let one-more : suc k + m ≡ suc (k + m) = omega arith in
     rw one-more (gaps-empty full t (k + m) (none t (omega arith)) ∙ gaps-skip full k (suc t) s m (omega arith) none)
 
+from-full : (full : ℕ → Bool) (s m : ℕ) → (0 < m → full s ≡ true) → gaps-since full 0 s m ≡ gaps full s m
+unfolding ended
+from-full full s zero job = gaps-since-none full 0 s ∙ sym (gaps-none full s)
+from-full full s (suc m) job = gaps-since-full full 0 s m (job (omega arith)) ∙ sym (gaps-full full s m (job (omega arith)))
+
+-- the walk may begin at the first job
+pub gaps-from-first : (full : ℕ → Bool) (slots s : ℕ) → s ≤ slots → ((u : ℕ) → u < s → full u ≡ false) → (s < slots → full s ≡ true)
+    → gaps full 0 slots ≡ gaps-since full 0 s (slots - s)
+gaps-from-first full slots s within none job =
+    let all : slots ≡ s + (slots - s) = omega arith in
+    ap (gaps full 0) all
+    ∙ gaps-skip full s 0 s (slots - s) (omega arith) none
+    ∙ sym (from-full full s (slots - s) (λ h. job (omega arith)))
+
 -- what is left to pay from slot t on, where g slots have been empty since the last job
 unfoldable pub left-to-pay : Power → List ℕ → ℕ → ℕ → ℕ
 left-to-pay power rows g t = total (price power) (gaps-since (holds-job rows) g t (length rows - t))
@@ -63,23 +77,13 @@ module _ (power : Power) (rows : List ℕ) where
       let here : length rows - t ≡ 0 = omega arith in
       rw (here, gaps-since-none (holds-job rows) g t) (total-none (price power))
 
-  from-first : (s m : ℕ) → (0 < m → HoldsJob rows s) → gaps-since (holds-job rows) 0 s m ≡ gaps (holds-job rows) s m
-  unfolding ended
-  from-first s zero full = gaps-since-none (holds-job rows) 0 s ∙ sym (gaps-none (holds-job rows) s)
-  from-first s (suc m) full =
-      gaps-since-full (holds-job rows) 0 s m (full (omega arith)) ∙ sym (gaps-full (holds-job rows) s m (full (omega arith)))
-
-  pay-first : (s : ℕ) → NextJob rows 0 s
-      → left-to-pay power rows 0 s ≡ total (price power) (gaps (holds-job rows) 0 (length rows))
+  pay-first : (s : ℕ) → NextJob rows 0 s → left-to-pay power rows 0 s ≡ total (price power) (gaps (holds-job rows) 0 (length rows))
   unfolding left-to-pay
   pay-first s first =
-      let all : length rows ≡ s + (length rows - s) = omega (arith, next-within first) in
-      rw (from-first s (length rows - s) (λ h. first .job (omega arith)))
-      (ap (total (price power))
-      (sym (ap (gaps (holds-job rows) 0) all ∙ gaps-skip (holds-job rows) s 0 s (length rows - s) (omega arith) none)))
-    where
-      none : (u : ℕ) → u < s → holds-job rows u ≡ false
-      none u h = on (holds-job rows u) (λ e. absurd (first .none u h (omega arith) e)) (λ e. e)
+      ap (total (price power))
+      (sym
+      (gaps-from-first (holds-job rows) (length rows) s (next-within first)
+      (λ u h. on (holds-job rows u) (λ e. absurd (first .none u h (omega arith) e)) (λ e. e)) (first .job)))
 
 -- what the gaps between the jobs cost
 abbrev pub whole-cost : Power → List ℕ → ℕ

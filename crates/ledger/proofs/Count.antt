@@ -1,0 +1,34 @@
+-- Laws of counting. Assumes nothing.
+use Prim.Native.Nat.{ℕ, zero, suc, _+_, _≤_, _<_}
+use mathlib.Core.Path.{_≡_, refl, ap}
+use native.Mathlib.Omega.{arith}
+use Rattle.ledger.specs.Count.{Count, none, counted, passed}
+
+pub count-unique : {P : ℕ → Type 0} {m c d : ℕ} → Count P m c → Count P m d → c ≡ d
+count-unique none none = refl
+count-unique (counted p h) (counted q l) = ap suc (count-unique p q)
+count-unique (counted p h) (passed q l) = absurd (l h)
+count-unique (passed p h) (counted q l) = absurd (h l)
+count-unique (passed p h) (passed q l) = count-unique p q
+
+-- of g further numbers all count, or none does
+pub count-all : {P : ℕ → Type 0} {m c : ℕ} (g n d : ℕ) → n ≡ m + g → d ≡ c + g → Count P m c → ((u : ℕ) → m ≤ u → u < n → P u)
+    → Count P n d
+count-all {P} {m} {c} zero n d e f p all =
+    let here : n ≡ m = omega arith in
+    let same : d ≡ c = omega arith in
+    rw (here, same) p
+count-all {P} {m} {c} (suc g) n d e f p all =
+    let here : n ≡ suc (m + g) = omega arith in
+    let more : d ≡ suc (c + g) = omega arith in
+    rw (here, more)
+    (counted (count-all g (m + g) (c + g) refl refl p (λ u h l. all u h (omega arith))) (all (m + g) (omega arith) (omega arith)))
+
+pub count-none : {P : ℕ → Type 0} {m c : ℕ} (g n : ℕ) → n ≡ m + g → Count P m c → ((u : ℕ) → m ≤ u → u < n → P u → ⊥) → Count P n c
+count-none {P} {m} {c} zero n e p never =
+    let here : n ≡ m = omega arith in
+    rw here p
+count-none {P} {m} {c} (suc g) n e p never =
+    let here : n ≡ suc (m + g) = omega arith in
+    rw here
+    (passed (count-none g (m + g) refl p (λ u h l. never u h (omega arith))) (never (m + g) (omega arith) (omega arith)))

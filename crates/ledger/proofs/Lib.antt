@@ -1,0 +1,7 @@
+-- The laws of the definitions in specs/, and the theorems of the ledger.
+pub mod Count
+pub mod Fills
+pub mod Column
+pub mod Walked
+pub mod Run
+pub mod Same

@@ -1,0 +1,75 @@
+-- Only the rows in the day's slots matter to what fills them. Assumes nothing.
+use Prim.Native.Nat.{ℕ, suc, _+_, _≤_, _<_}
+use mathlib.Core.Path.{_≡_, refl, sym, _∙_}
+use mathlib.Core.List.{List}
+use native.Mathlib.Omega.{arith}
+use lib.ListN.{length, take}
+use Rattle.day.specs.declared.Power.{Power}
+use Rattle.day.specs.Windows.{at}
+use Rattle.day.specs.Plan.{Plan}
+use Rattle.day.specs.Check.{most-slots}
+use Rattle.claim.specs.Rows.{row-at, RowsBySlot}
+use Rattle.claim.proofs.Rows.{rows-each, rows-cut}
+use Rattle.ledger.specs.declared.Fill.{Fill}
+use Rattle.ledger.specs.declared.Counts.{Counts}
+use Rattle.ledger.specs.Fills.{Busy, InGap, Fills, by-job, before-first, after-last, in-awake, in-asleep}
+use Rattle.ledger.specs.Count.{Count, none, counted, passed, InColumn, Counted}
+
+-- two functions give the same row for each slot of the day
+abbrev Agree : ℕ → (ℕ → ℕ) → (ℕ → ℕ) → Type 0
+Agree slots row other = (u : ℕ) → u < slots → row u ≡ other u
+
+gap-same : {slots : ℕ} {row other : ℕ → ℕ} {t g : ℕ} → Agree slots row other → InGap slots row t g → InGap slots other t g
+gap-same {slots} {row} {other} {t} {g} agree p =
+    record {
+      last = p .last;
+      job-before = λ e. p .job-before (agree (p .last) (omega (arith, p .within)) ∙ e);
+      after-last = p .after-last;
+      empty = λ u h l. sym (agree u (omega (arith, p .within))) ∙ p .empty u h l;
+      before-next = p .before-next;
+      job-after = λ e. p .job-after (agree (p .last + g + 1) (p .within) ∙ e);
+      within = p .within;
+    }
+
+fills-same : {power : Power} {slots : ℕ} {row other : ℕ → ℕ} {t : ℕ} {f : Fill} → Agree slots row other → t < slots
+    → Fills power slots row t f → Fills power slots other t f
+fills-same {t = t} agree l (by-job b) = rw (agree t l) (by-job (λ e. b (agree t l ∙ e)))
+fills-same agree l (before-first n) = before-first (λ u h. sym (agree u (omega arith)) ∙ n u h)
+fills-same agree l (after-last s h b n) =
+    after-last s h (λ e. b (agree s (omega arith) ∙ e)) (λ u k m. sym (agree u m) ∙ n u k m)
+fills-same agree l (in-awake g p e) = in-awake g (gap-same agree p) e
+fills-same agree l (in-asleep g p e) = in-asleep g (gap-same agree p) e
+
+column-same : {power : Power} {slots : ℕ} {row other : ℕ → ℕ} {k t : ℕ} → Agree slots row other → t < slots
+    → InColumn power slots row k t → InColumn power slots other k t
+column-same agree l p = record { fill = p .fill; fills = fills-same agree l (p .fills); here = p .here }
+
+count-same : {P Q : ℕ → Type 0} {m c : ℕ} → ((u : ℕ) → u < m → P u → Q u) → ((u : ℕ) → u < m → Q u → P u) → Count P m c → Count Q m c
+count-same to from none = none
+count-same to from (counted {m = m} p h) =
+    counted (count-same (λ u l. to u (omega arith)) (λ u l. from u (omega arith)) p) (to m (omega arith) h)
+count-same to from (passed {m = m} p h) =
+    passed (count-same (λ u l. to u (omega arith)) (λ u l. from u (omega arith)) p) (λ q. h (from m (omega arith) q))
+
+module _ {power : Power} {slots : ℕ} {row other : ℕ → ℕ} (agree : Agree slots row other) where
+  one-column : {k c : ℕ} → Count (InColumn power slots row k) slots c → Count (InColumn power slots other k) slots c
+  one-column = count-same (λ u l. column-same agree l) (λ u l. column-same (λ v h. sym (agree v h)) l)
+
+  counted-same : {c : Counts} → Counted power slots row c → Counted power slots other c
+  counted-same p =
+      record {
+        before = one-column (p .before);
+        job = one-column (p .job);
+        awake = one-column (p .awake);
+        asleep = one-column (p .asleep);
+        after = one-column (p .after);
+      }
+
+-- from the list of the rows in the day's slots to the plan
+module _ {power : Power} {n slots : ℕ} {start : Plan} {rows : List ℕ} (within : slots ≤ most-slots) (r : RowsBySlot n start rows) where
+  pub plan-filled : {t : ℕ} {f : Fill} → t < slots → Fills power (length (take slots rows)) (at (take slots rows)) t f
+      → Fills power slots (row-at n start) t f
+  plan-filled l p = fills-same (λ u h. rows-each r slots u within h) l (rw (rows-cut r slots within) at p)
+
+  pub plan-counted : {c : Counts} → Counted power (length (take slots rows)) (at (take slots rows)) c → Counted power slots (row-at n start) c
+  plan-counted p = counted-same (λ u h. rows-each r slots u within h) (rw (rows-cut r slots within) at p)

@@ -1,0 +1,113 @@
+-- `ledger::walk::count` meets its contract. Assumes nothing.
+use Prim.Native.Nat.{_-_}
+use mathlib.Core.Logic.{⊎-elim}
+use native.Mathlib.Omega.{arith}
+use borrow.Author.Needs.{needs}
+use lib.ListN.{length}
+use Rattle.day.specs.Windows.{at}
+use Rattle.ledger.proofs.Walked.{Walked, walked-first, walked-empty, walked-job, walked-end, slept-at-most}
+use Rattle.ledger.proofs.Run.{next-first}
+use Rattle.ledger.proofs.walk.count.Statement.{statement}
+use Rattle.ledger.proofs.walk.count.Tie as tie
+
+abbrev Inv-loop : tie.InvT-loop
+Inv-loop power rows first job₀ awake₀ asleep₀ empty₀ slot₀ job awake asleep empty slot =
+    Walked power (length rows) (at rows) first job awake asleep empty slot
+
+abbrev μ-loop : tie.MeasureT-loop
+μ-loop power rows first job₀ awake₀ asleep₀ empty₀ slot₀ job awake asleep empty slot = length rows - slot
+
+next-job-requires : tie.Need-next-job-requires Inv-loop μ-loop
+next-job-requires c κs = search needs
+
+loop-holds : tie.Need-loop-holds Inv-loop μ-loop
+loop-holds c = walked-first (next-first (c .next-job .ensures))
+
+mul-if1 : tie.Need-mul-if1 Inv-loop μ-loop
+mul-if1 c = search needs
+
+shared-slice-read-if1 : tie.Need-shared-slice-read-if1 Inv-loop μ-loop
+shared-slice-read-if1 c = search needs
+
+add-empty : tie.Need-add-empty Inv-loop μ-loop
+add-empty c = omega (arith, c .before .before .before .loop .inv .sum)
+
+slept-requires : tie.Need-slept-requires Inv-loop μ-loop
+slept-requires c κs = search needs
+
+add-asleep : tie.Need-add-asleep Inv-loop μ-loop
+add-asleep c =
+    omega (
+      arith,
+      c .before .before .before .before .loop .inv .sum,
+      slept-at-most (c .before .before .before .before .before .before .before .args .power) (c .before .before .before .before .loop .empty) (c .slept .ensures),
+    )
+
+sub-awake : tie.Need-sub-awake Inv-loop μ-loop
+sub-awake c =
+    omega (
+      arith,
+      c .before .before .before .before .loop .inv .sum,
+      slept-at-most (c .before .before .before .before .before .before .before .args .power) (c .before .before .before .before .loop .empty) (c .slept .ensures),
+    )
+
+add-awake : tie.Need-add-awake Inv-loop μ-loop
+add-awake c =
+    omega (
+      arith,
+      c .before .before .before .before .loop .inv .sum,
+      slept-at-most (c .before .before .before .before .before .before .before .args .power) (c .before .before .before .before .loop .empty) (c .slept .ensures),
+    )
+
+add-job : tie.Need-add-job Inv-loop μ-loop
+add-job c =
+    omega (
+      arith,
+      c .before .before .before .before .loop .inv .sum,
+      slept-at-most (c .before .before .before .before .before .before .before .args .power) (c .before .before .before .before .loop .empty) (c .slept .ensures),
+    )
+
+add-slot : tie.Need-add-slot Inv-loop μ-loop
+add-slot c = search needs
+
+loop-less : tie.Need-loop-less Inv-loop μ-loop
+loop-less c = search needs
+
+loop-again : tie.Need-loop-again Inv-loop μ-loop
+loop-again c =
+    ⊎-elim
+    (λ w.
+    rw (w .1, w .2, w .3)
+    (walked-empty (c .before .before .before .loop .inv) (c .before .before .loop-test .taken) (w .0 .taken) (w .4)))
+    (λ w.
+    walked-job (c .before .before .before .loop .inv) (c .before .before .loop-test .taken) (w .0 .left) (w .1 .ensures) (w .4) (w .3) (w .2)
+    (w .5))
+    (c .if1 .came)
+
+cast-t15 : tie.Need-cast-t15 Inv-loop μ-loop
+cast-t15 c = omega (arith, c .before .loop .inv .sum, c .before .loop .inv .within)
+
+returns : tie.Need-returns Inv-loop μ-loop
+returns c = walked-end (c .before .loop .inv) (c .loop-test .left)
+
+pub count-spec : {M : Type 1} → statement M
+count-spec =
+    tie.close
+    (tie.spec
+    Inv-loop
+    μ-loop
+    next-job-requires
+    loop-holds
+    mul-if1
+    shared-slice-read-if1
+    add-empty
+    slept-requires
+    add-asleep
+    sub-awake
+    add-awake
+    add-job
+    add-slot
+    loop-less
+    loop-again
+    cast-t15
+    returns)

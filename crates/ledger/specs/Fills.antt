@@ -1,0 +1,33 @@
+-- What fills a slot. The plan is given by the row that stands in each slot, counted from 1; 0 where none does.
+use Prim.Native.Nat.{ℕ, _+_, _≤_, _<_}
+use mathlib.Core.Path.{_≡_}
+use mathlib.Core.Bool.{true, false}
+use Rattle.day.specs.declared.Power.{Power}
+use Rattle.day.specs.Gap.{asleep}
+use Rattle.ledger.specs.declared.Fill.{Fill}
+use Rattle.ledger.specs.declared.Fill.the-variants.{Job, Before, Awake, Asleep, After}
+
+abbrev pub Empty : (ℕ → ℕ) → ℕ → Type 0
+Empty row t = row t ≡ 0
+
+abbrev pub Busy : (ℕ → ℕ) → ℕ → Type 0
+Busy row t = row t ≡ 0 → ⊥
+
+-- slot t lies in a gap of g slots: those between a job at slot `last` and the next job, all of them empty
+pub record InGap (slots : ℕ) (row : ℕ → ℕ) (t g : ℕ) : Type 0 where
+  pub last : ℕ
+  pub job-before : Busy row last
+  pub after-last : last < t
+  pub empty : (u : ℕ) → last < u → u ≤ last + g → Empty row u
+  pub before-next : t ≤ last + g
+  pub job-after : Busy row (last + g + 1)
+  pub within : last + g + 1 < slots
+
+pub data Fills (power : Power) (slots : ℕ) (row : ℕ → ℕ) (t : ℕ) : Fill → Type 0 where
+  by-job : Busy row t → Fills power slots row t (Job (row t))
+  -- no job up to t: before the first, or there is none
+  before-first : ((u : ℕ) → u ≤ t → Empty row u) → Fills power slots row t Before
+  -- a job before t, and none from then on
+  after-last : (last : ℕ) → last < t → Busy row last → ((u : ℕ) → last < u → u < slots → Empty row u) → Fills power slots row t After
+  in-awake : (g : ℕ) → InGap slots row t g → asleep power g ≡ false → Fills power slots row t Awake
+  in-asleep : (g : ℕ) → InGap slots row t g → asleep power g ≡ true → Fills power slots row t Asleep

@@ -1,0 +1,43 @@
+-- What the ledger and one slot's record promise.
+use Prim.Native.Nat.{ℕ, _≤_}
+use mathlib.Core.Path.{_≡_}
+use mathlib.Core.List.{List}
+use Rattle.day.specs.declared.Answer.{Answer}
+use Rattle.day.specs.declared.Day.{Day}
+use Rattle.day.specs.Windows.{Windows, at}
+use Rattle.day.specs.Answer.{done, no-such-slot}
+use Rattle.day.specs.Refusal.{_then_, Passed, Refuses}
+use Rattle.claim.specs.Claim.{ClaimCheck}
+use Rattle.claim.specs.Rows.{row-at}
+use Rattle.ledger.specs.declared.Fill.{Fill}
+use Rattle.ledger.specs.declared.Fill.the-variants.{Before}
+use Rattle.ledger.specs.declared.SlotFill.{SlotFill}
+use Rattle.ledger.specs.declared.SlotAnswer.{SlotAnswer}
+use Rattle.ledger.specs.declared.Counts.{Counts}
+use Rattle.ledger.specs.declared.LedgerAnswer.{LedgerAnswer}
+use Rattle.ledger.specs.Fills.{Fills}
+use Rattle.ledger.specs.Count.{Counted}
+
+-- the row that the plan puts in each slot
+abbrev pub plan-row : Windows → List ℕ → ℕ → ℕ
+plan-row w starts = row-at (w .count) (at starts)
+
+abbrev pub no-counts : Counts
+no-counts = record { before = 0; job = 0; awake = 0; asleep = 0; after = 0 }
+
+-- the ledger: refused as pricing, or the five counts of the plan
+pub record Ledgered (day : Day) (w : Windows) (starts : List ℕ) (answered : LedgerAnswer) : Type 0 where
+  pub answer : (ClaimCheck day w starts then Passed) (answered .answer)
+  pub accepted : answered .answer .code ≡ done → Counted (day .power) (day .slots) (plan-row w starts) (answered .counts)
+  pub refused : (answered .answer .code ≡ done → ⊥) → answered .counts ≡ no-counts
+
+-- what a refused slot record holds
+abbrev pub no-slot : SlotFill
+no-slot = record { slot = 0; fill = Before }
+
+-- one slot of a plan: refused as pricing, then by 19, or the slot and what fills it
+pub record SlotShown (day : Day) (w : Windows) (starts : List ℕ) (asked : ℕ) (shown : SlotAnswer) : Type 0 where
+  pub answer : (ClaimCheck day w starts then Refuses no-such-slot (day .slots ≤ asked) then Passed) (shown .answer)
+  pub slot : shown .answer .code ≡ done → shown .held .slot ≡ asked
+  pub fill : shown .answer .code ≡ done → Fills (day .power) (day .slots) (plan-row w starts) asked (shown .held .fill)
+  pub refused : (shown .answer .code ≡ done → ⊥) → shown .held ≡ no-slot
