@@ -9,7 +9,7 @@ use lib.IntN.{ℤ}
 use Rattle.day.specs.Windows.{at}
 use Rattle.day.specs.Change.{Shifts}
 use Rattle.day.proofs.Cases.{on-eq}
-use Rattle.moving.specs.Moving.{FirstMoved}
+use Rattle.moving.specs.Steps.{FirstMoved}
 
 pub first-none : {by : ℤ} {xs : List ℕ} → FirstMoved by 0 xs xs
 first-none = record { as-long = refl; moved = λ i h. absurd (omega arith); rest = λ i h. refl }

@@ -17,7 +17,8 @@ use Rattle.day.specs.Check.{most-slots, most-jobs, GoodRows}
 use Rattle.day.proofs.Cases.{give, on, on-le}
 use Rattle.day.proofs.Refusal.{IsCheck, refuses-row-is-check, then-is-check, passed-clear, clear-first, clear-next, no-fault, no-row-at-fault}
 use Rattle.day.proofs.Check.{slots-is-check, jobs-is-check, clear-good-rows}
-use Rattle.moving.specs.Moving.{Outside, MoveCheck, Movable, FirstMoved, RowsMoved}
+use Rattle.moving.specs.Moving.{Outside, MoveCheck, RowsMoved}
+use Rattle.moving.specs.Steps.{Movable, FirstMoved}
 use Rattle.moving.proofs.Signs.{below, not-below, shift-keeps-order}
 
 -- where a window goes that stays in the day

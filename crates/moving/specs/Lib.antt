@@ -1,2 +1,3 @@
 -- The moving of a list, of document 01.
 pub mod Moving
+pub mod Steps

@@ -1,7 +1,6 @@
 -- What the moving of a list promises.
-use Prim.Native.Nat.{ℕ, _<_, _≤_}
+use Prim.Native.Nat.{ℕ, _≤_}
 use mathlib.Core.Path.{_≡_}
-use mathlib.Core.Bool.{Bool, true, false}
 use mathlib.Core.Logic.{_⊎_}
 use mathlib.Core.List.{List}
 use lib.ListN.{length}
@@ -9,7 +8,7 @@ use lib.IntN.{ℤ, pos, _+ℤ_}
 use lib.Signed.{_<ℤ_}
 use Rattle.day.specs.declared.Answer.{Answer}
 use Rattle.day.specs.Windows.{Windows, at, windows}
-use Rattle.day.specs.Change.{Shifts, Moved}
+use Rattle.day.specs.Change.{Moved}
 use Rattle.day.specs.Answer.{done, leaves-day}
 use Rattle.day.specs.Refusal.{_then_, RefusesRow, Passed}
 use Rattle.day.specs.Check.{most-slots, most-jobs, SlotsCheck, JobsCheck}
@@ -21,27 +20,12 @@ Outside slots by release deadline = ((pos release +ℤ by) <ℤ pos 0) ⊎ (pos 
 abbrev pub LeavesDay : ℕ → ℤ → Windows → ℕ → Type 0
 LeavesDay slots by w i = Outside slots by (w .release i) (w .deadline i)
 
--- b says whether a fact holds
-pub record Decides (Fact : Type 0) (b : Bool) : Type 0 where
-  pub holds : b ≡ true → Fact
-  pub fails : b ≡ false → Fact → ⊥
-
 -- codes 1, 3, 4 and 18
 abbrev pub MoveCheck : ℕ → ℤ → Windows → Answer → Type 0
 MoveCheck slots by w =
     SlotsCheck most-slots slots
     then JobsCheck most-jobs slots w
     then RefusesRow leaves-day (w .count) (LeavesDay slots by w)
-
--- each of the first n numbers, moved, is a 16-bit number
-abbrev pub Movable : ℤ → ℕ → List ℕ → Type 0
-Movable by n xs = (i : ℕ) → i < n → (y : ℕ) × (y < 65536) × Shifts by (at xs i) y
-
--- ys is xs with its first n numbers moved, and nothing more
-pub record FirstMoved (by : ℤ) (n : ℕ) (xs ys : List ℕ) : Type 0 where
-  pub as-long : length ys ≡ length xs
-  pub moved : (i : ℕ) → i < n → Shifts by (at xs i) (at ys i)
-  pub rest : (i : ℕ) → n ≤ i → at ys i ≡ at xs i
 
 -- every row is moved; a deadline without a release is no row and stays
 pub record RowsMoved (by : ℤ) (releases deadlines releases-after deadlines-after : List ℕ) : Type 0 where

@@ -12,7 +12,8 @@ ghost use lib.ListN.{length};
 ghost use lib.IntN.{pos, _+ℤ_};
 ghost use Rattle.day.specs.Windows.{windows};
 ghost use Rattle.day.specs.Refusal.{_then_, Passed, FirstOrEnd};
-ghost use Rattle.moving.specs.Moving.{Decides, Outside, LeavesDay, MoveCheck, Movable, FirstMoved, MovedList};
+ghost use Rattle.moving.specs.Moving.{Outside, LeavesDay, MoveCheck, MovedList};
+ghost use Rattle.moving.specs.Steps.{Decides, Movable, FirstMoved};
 
 // Moves every row by `by` slots; a positive number is later. Where it refuses, no list is touched.
 pub fn move_list(slots: u16, by: i16, releases: &mut [u16], deadlines: &mut [u16]) -> Answer

@@ -9,7 +9,8 @@ use mir.ValLaws.{toZ-ofZ}
 use borrow.Author.Count.{below-more}
 use borrow.Author.Needs.{needs}
 use Rattle.day.specs.Windows.{windows}
-use Rattle.moving.specs.Moving.{Decides, LeavesDay}
+use Rattle.moving.specs.Moving.{LeavesDay}
+use Rattle.moving.specs.Steps.{Decides}
 use Rattle.moving.proofs.first_leaving.Statement.{statement}
 use Rattle.moving.proofs.first_leaving.Tie as tie
 

@@ -8,7 +8,7 @@ use mir.Val.{toZ, ofZ}
 use mir.ValLaws.{toZ-ofZ}
 use Rattle.day.specs.Change.{Shifts}
 use Rattle.day.specs.Windows.{at}
-use Rattle.moving.specs.Moving.{FirstMoved}
+use Rattle.moving.specs.Steps.{FirstMoved}
 use Rattle.moving.proofs.Firsts.{first-none, first-next}
 use Rattle.moving.proofs.Signs.{moved-reads}
 use Rattle.moving.proofs.move_first.Statement.{statement}
