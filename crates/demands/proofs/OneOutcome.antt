@@ -6,15 +6,15 @@ use native.Mathlib.Omega.{arith}
 use Rattle.day.specs.declared.Answer.{Answer}
 use Rattle.day.specs.declared.Day.{Day}
 use Rattle.day.specs.Windows.{Windows}
-use Rattle.day.specs.Refusal.{_then_, Passed, FirstOrEnd}
-use Rattle.day.proofs.Cases.{give, on-le}
+use Rattle.day.specs.Refusal.{_then_, Passed}
+use Rattle.day.proofs.Cases.{give}
 use Rattle.day.proofs.Refusal.{IsCheck, then-unique, then-is-check, refuses-is-check}
 use Rattle.day.proofs.Check.{slots-is-check, power-is-check, jobs-is-check, list-is-check}
 use Rattle.day.proofs.Numbering.{numbering-unique}
 use Rattle.planner.specs.Table.{need}
 use Rattle.planner.specs.Promise.{PlanCheck}
 use Rattle.planner.proofs.Promise.{planned-unique}
-use Rattle.claim.proofs.Promise.{priced-unique, judged-unique, chosen-unique, handed-unique}
+use Rattle.claim.proofs.Promise.{judged-unique, priced-unique, chosen-unique, handed-unique, next-unique}
 use Rattle.moving.proofs.Unique.{moved-list-unique}
 use Rattle.dayfile.proofs.Unique.{read-unique, written-unique}
 use Rattle.demands.specs.OneOutcome.{AtMostOne, OneOutcome}
@@ -22,12 +22,6 @@ use Rattle.demands.specs.OneOutcome.{AtMostOne, OneOutcome}
 -- a check that passes or refuses
 check-unique : {Check : Answer → Type 0} → IsCheck Check → AtMostOne (Check then Passed)
 check-unique check = then-unique check (λ a b p q. p ∙ sym q)
-
-first-or-end-unique : {n : ℕ} {Fault : ℕ → Type 0} → AtMostOne (FirstOrEnd n Fault)
-first-or-end-unique i j p q =
-    on-le i j
-    (λ h. on-le j i (λ l. omega arith) (λ l. absurd (q .lowest i l (p .fault (omega (arith, q .within))))))
-    (λ h. absurd (p .lowest j h (q .fault (omega (arith, p .within)))))
 
 plan-is-check : (day : Day) (w : Windows) (starts table : List ℕ) → IsCheck (PlanCheck day w starts table)
 plan-is-check day w starts table =
@@ -56,7 +50,7 @@ one-outcome =
       price = priced-unique;
       which = chosen-unique;
       choose = handed-unique;
-      first-job = λ rows. first-or-end-unique;
+      next-job = next-unique;
       move-list = λ slots by releases deadlines x y p q.
           give (moved-list-unique p q) (λ s. all-same x y (s .0) (s .1) (s .2));
       read = λ file releases deadlines x y p q. give (read-unique p q) (λ s. all-same x y (s .0) (s .1) (s .2));

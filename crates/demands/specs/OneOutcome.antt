@@ -3,20 +3,19 @@
 use Prim.Native.Nat.{ℕ}
 use mathlib.Core.Path.{_≡_}
 use mathlib.Core.List.{List}
-use lib.ListN.{length}
 use lib.IntN.{ℤ}
 use denote.Ref.{RefT}
 use Rattle.day.specs.declared.Answer.{Answer}
 use Rattle.day.specs.declared.Power.{Power}
 use Rattle.day.specs.declared.Day.{Day}
 use Rattle.day.specs.Windows.{Windows}
-use Rattle.day.specs.Refusal.{_then_, Passed, FirstOrEnd}
+use Rattle.day.specs.Refusal.{_then_, Passed}
 use Rattle.day.specs.Check.{SlotsCheck, PowerCheck, JobsCheck, ListCheck}
 use Rattle.day.specs.Numbering.{Numbering}
 use Rattle.planner.specs.Table.{need}
 use Rattle.planner.specs.Promise.{PlanCheck, Planned}
 use Rattle.claim.specs.Claim.{ClaimCheck, Priced}
-use Rattle.claim.specs.Rows.{HoldsJob, Judged}
+use Rattle.claim.specs.Rows.{NextJob, Judged}
 use Rattle.claim.specs.Choice.{Chosen, HandedBack}
 use Rattle.claim.proofs.Promise.{SamePart}
 use Rattle.moving.specs.Moving.{MovedList}
@@ -45,7 +44,7 @@ pub record OneOutcome : Type 0 where
   pub which : (day : Day) (w : Windows) (own server : List ℕ) → AtMostOne (Chosen day w own server)
   pub choose : (day : Day) (w : Windows) (own server part other : RefT (List ℕ)) → HandedBack day w own server part
       → HandedBack day w own server other → SamePart part other
-  pub first-job : (rows : List ℕ) → AtMostOne (FirstOrEnd (length rows) (HoldsJob rows))
+  pub next-job : (rows : List ℕ) (from : ℕ) → AtMostOne (NextJob rows from)
   -- moving
   pub move-list : (slots : ℕ) (by : ℤ) (releases deadlines : List ℕ)
       → AtMostOne {A = Answer × List ℕ × List ℕ} (λ o. MovedList slots by releases deadlines (o .0) (o .1) (o .2))
