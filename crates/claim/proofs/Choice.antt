@@ -1,6 +1,6 @@
 -- Laws of the choice between two plans. Assumes nothing.
-use Prim.Native.Nat.{ℕ, _≤_, _<_}
-use mathlib.Core.Path.{_≡_, sym, _∙_, ap}
+use Prim.Native.Nat.{ℕ}
+use mathlib.Core.Path.{_≡_, ap}
 use mathlib.Core.List.{List}
 use native.Mathlib.Omega.{arith}
 use Rattle.day.specs.declared.Answer.{Answer}
@@ -8,8 +8,7 @@ use Rattle.day.specs.declared.Day.{Day}
 use Rattle.day.specs.Windows.{Windows}
 use Rattle.day.specs.Answer.{says, done}
 use Rattle.day.specs.Refusal.{_then_, stops, goes-on}
-use Rattle.day.specs.Check.{ListCheck}
-use Rattle.day.proofs.Refusal.{IsCheck, refuses-is-check, then-is-check}
+use Rattle.day.proofs.Refusal.{IsCheck, refuses-is-check}
 use Rattle.day.proofs.Check.{list-is-check}
 use Rattle.day.proofs.Cases.{give, on-eq}
 use Rattle.claim.specs.Claim.{Fit, StartsCheck, Costs}

@@ -8,7 +8,7 @@ use lib.ListN.{length}
 use Rattle.day.specs.declared.Answer.{Answer}
 use Rattle.day.specs.declared.Day.{Day}
 use Rattle.day.specs.Windows.{Windows, at}
-use Rattle.day.specs.Plan.{MayStart, Proper}
+use Rattle.day.specs.Plan.{MayStart}
 use Rattle.day.specs.Gap.{cost}
 use Rattle.day.specs.Answer.{done}
 use Rattle.day.specs.Refusal.{_then_, stops, goes-on, Passed}

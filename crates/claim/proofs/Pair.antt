@@ -1,6 +1,6 @@
 -- Laws of the first pair at fault: what its search knows row by row, partner by partner, and that a pair at fault has a first. Assumes nothing.
 use Prim.Native.Nat.{ℕ, suc, _+_, _<_}
-use mathlib.Core.Path.{_≡_, refl}
+use mathlib.Core.Path.{refl}
 use mathlib.Core.Logic.{_⊎_, inl, inr, ⊎-elim}
 use native.Mathlib.Omega.{arith}
 use Rattle.day.specs.declared.Answer.{Answer}

@@ -1,5 +1,5 @@
 -- Each promise of this crate determines its outcome, and the two functions of the choice agree. Assumes nothing.
-use Prim.Native.Nat.{ℕ, _≤_, _<_}
+use Prim.Native.Nat.{ℕ, _≤_}
 use mathlib.Core.Path.{_≡_, refl, sym, _∙_, ap}
 use mathlib.Core.List.{List}
 use native.Mathlib.Omega.{arith}
@@ -12,7 +12,7 @@ use Rattle.day.specs.Windows.{Windows}
 use Rattle.day.specs.Plan.{Plan}
 use Rattle.day.specs.Answer.{says, done}
 use Rattle.day.proofs.Cases.{on-eq, on-le}
-use Rattle.day.proofs.Refusal.{IsCheck, then-unique}
+use Rattle.day.proofs.Refusal.{then-unique}
 use Rattle.day.proofs.Check.{list-is-check}
 use Rattle.claim.specs.declared.Claimed.{Claimed}
 use Rattle.claim.specs.Claim.{Priced, ClaimCheck}

@@ -1,6 +1,6 @@
 -- The walk over the slots that prices the gaps: what is left to pay, slot by slot. Assumes nothing.
 use Prim.Native.Nat.{ℕ, zero, suc, _+_, _-_, _≤_, _<_}
-use mathlib.Core.Path.{_≡_, refl, sym, _∙_, ap}
+use mathlib.Core.Path.{_≡_, sym, _∙_, ap}
 use mathlib.Core.Bool.{Bool, true, false}
 use mathlib.Core.List.{List}
 use native.Mathlib.Omega.{arith}
@@ -11,7 +11,7 @@ use Rattle.day.specs.Plan.{Plan, taken}
 use Rattle.day.specs.Check.{most-slots}
 use Rattle.day.specs.declared.Power.{Power}
 use Rattle.day.specs.Gap.{price, ended, gaps-since, gaps, total, cost}
-use Rattle.day.proofs.Cases.{on, on-le}
+use Rattle.day.proofs.Cases.{on}
 use Rattle.day.proofs.Gap.{
   price-at-most-length,
   total-none,

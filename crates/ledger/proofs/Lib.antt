@@ -5,3 +5,6 @@ pub mod Column
 pub mod Walked
 pub mod Run
 pub mod Same
+pub mod Cost
+pub mod Outer
+pub mod Promise

@@ -1,6 +1,6 @@
 -- Only the rows in the day's slots matter to what fills them. Assumes nothing.
-use Prim.Native.Nat.{ℕ, suc, _+_, _≤_, _<_}
-use mathlib.Core.Path.{_≡_, refl, sym, _∙_}
+use Prim.Native.Nat.{ℕ, _+_, _≤_, _<_}
+use mathlib.Core.Path.{_≡_, sym, _∙_}
 use mathlib.Core.List.{List}
 use native.Mathlib.Omega.{arith}
 use lib.ListN.{length, take}
@@ -12,7 +12,7 @@ use Rattle.claim.specs.Rows.{row-at, RowsBySlot}
 use Rattle.claim.proofs.Rows.{rows-each, rows-cut}
 use Rattle.ledger.specs.declared.Fill.{Fill}
 use Rattle.ledger.specs.declared.Counts.{Counts}
-use Rattle.ledger.specs.Fills.{Busy, InGap, Fills, by-job, before-first, after-last, in-awake, in-asleep}
+use Rattle.ledger.specs.Fills.{InGap, Fills, by-job, before-first, after-last, in-awake, in-asleep}
 use Rattle.ledger.specs.Count.{Count, none, counted, passed, InColumn, Counted}
 
 -- two functions give the same row for each slot of the day

@@ -1,17 +1,16 @@
 -- The walk over the slots that counts them: what is known at each slot. Assumes nothing.
-use Prim.Native.Nat.{ℕ, zero, suc, _+_, _-_, _≤_, _<_}
+use Prim.Native.Nat.{ℕ, _+_, _-_, _≤_, _<_}
 use mathlib.Core.Path.{_≡_, refl, _∙_}
-use mathlib.Core.Bool.{true, false, cond}
+use mathlib.Core.Bool.{cond}
 use native.Mathlib.Omega.{arith}
 use Rattle.day.specs.declared.Power.{Power}
 use Rattle.day.specs.Gap.{asleep as sleeping}
 use Rattle.day.specs.Refusal.{FirstOrEnd}
-use Rattle.day.proofs.Cases.{give, on, on-eq, on-le}
-use Rattle.ledger.specs.declared.Fill.{Fill}
+use Rattle.day.proofs.Cases.{give, on, on-eq}
 use Rattle.ledger.specs.declared.Fill.the-variants.{Job, Before, Awake, Asleep, After}
 use Rattle.ledger.specs.declared.Counts.{Counts}
-use Rattle.ledger.specs.Fills.{Empty, Busy, InGap, Fills, by-job, before-first, after-last, in-awake, in-asleep}
-use Rattle.ledger.specs.Count.{Count, none, InColumn, CountedTo, Counted}
+use Rattle.ledger.specs.Fills.{Empty, Busy, InGap, by-job, before-first, after-last, in-awake, in-asleep}
+use Rattle.ledger.specs.Count.{none, CountedTo, Counted}
 use Rattle.ledger.proofs.Column.{gain, counted-block}
 
 abbrev pub five : ℕ → ℕ → ℕ → ℕ → ℕ → Counts

@@ -1,0 +1,71 @@
+-- Each promise of the ledger determines its outcome. Assumes nothing.
+use Prim.Native.Nat.{ℕ, _≤_, _<_}
+use mathlib.Core.Path.{_≡_, sym, _∙_, ap}
+use mathlib.Core.List.{List}
+use native.Mathlib.Omega.{arith}
+use Rattle.day.specs.declared.Answer.{Answer}
+use Rattle.day.specs.declared.Day.{Day}
+use Rattle.day.specs.declared.Power.{Power}
+use Rattle.day.specs.Windows.{Windows}
+use Rattle.day.specs.Answer.{done, no-such-slot}
+use Rattle.day.specs.Refusal.{_then_, stops, goes-on, Passed, Refuses}
+use Rattle.day.proofs.Cases.{on-eq, on-le}
+use Rattle.day.proofs.Refusal.{refuses-is-check, then-unique, no-fault}
+use Rattle.claim.specs.Claim.{ClaimCheck}
+use Rattle.claim.proofs.Claim.{claim-is-check}
+use Rattle.ledger.specs.declared.Counts.{Counts}
+use Rattle.ledger.specs.declared.LedgerAnswer.{LedgerAnswer}
+use Rattle.ledger.specs.declared.SlotAnswer.{SlotAnswer}
+use Rattle.ledger.specs.Count.{Counted}
+use Rattle.ledger.specs.Promise.{Ledgered, SlotShown}
+use Rattle.ledger.proofs.Count.{count-unique}
+use Rattle.ledger.proofs.Fills.{fills-unique}
+
+counted-unique : {power : Power} {slots : ℕ} {row : ℕ → ℕ} {c d : Counts} → Counted power slots row c → Counted power slots row d → c ≡ d
+counted-unique p q =
+    rw (
+      count-unique (p .before) (q .before),
+      count-unique (p .job) (q .job),
+      count-unique (p .awake) (q .awake),
+      count-unique (p .asleep) (q .asleep),
+      count-unique (p .after) (q .after),
+    )
+
+pub ledgered-unique : (day : Day) (w : Windows) (starts : List ℕ) (a b : LedgerAnswer) → Ledgered day w starts a → Ledgered day w starts b
+    → a ≡ b
+ledgered-unique day w starts a b p q = rw (same-answer, same-counts)
+  where
+    same-answer : a .answer ≡ b .answer
+    same-answer = then-unique (claim-is-check day w starts) (λ x y e f. e ∙ sym f) (a .answer) (b .answer) (p .answer) (q .answer)
+
+    same-counts : a .counts ≡ b .counts
+    same-counts =
+        on-eq (a .answer .code) done
+        (λ e. counted-unique (p .accepted e) (q .accepted (rw same-answer at e)))
+        (λ e. p .refused e ∙ sym (q .refused (rw same-answer at e)))
+
+-- a slot that is shown is a slot of the day
+shown-within : (day : Day) (w : Windows) (starts : List ℕ) (asked : ℕ) (a : Answer)
+    → (ClaimCheck day w starts then Refuses no-such-slot (day .slots ≤ asked) then Passed) a → a .code ≡ done → asked < day .slots
+shown-within day w starts asked a (stops p) e = absurd (claim-is-check day w starts .not-done a p e)
+shown-within day w starts asked a (goes-on _ (stops p)) e = absurd (omega (arith, ap (λ (x : Answer). x .code) (p .says), e))
+shown-within day w starts asked a (goes-on _ (goes-on clear _)) e =
+    on-le (day .slots) asked (λ h. absurd (no-fault clear h)) (λ h. h)
+
+pub shown-unique : (day : Day) (w : Windows) (starts : List ℕ) (asked : ℕ) (a b : SlotAnswer) → SlotShown day w starts asked a
+    → SlotShown day w starts asked b → a ≡ b
+shown-unique day w starts asked a b p q =
+    on-eq (a .answer .code) done
+    (λ e.
+    let f : b .answer .code ≡ done = rw same-answer at e in
+    rw (
+      same-answer,
+      p .slot e ∙ sym (q .slot f),
+      fills-unique (shown-within day w starts asked (a .answer) (p .answer) e) (p .fill e) (q .fill f),
+    ))
+    (λ e. rw (same-answer, p .refused e ∙ sym (q .refused (rw same-answer at e))))
+  where
+    same-answer : a .answer ≡ b .answer
+    same-answer =
+        then-unique (claim-is-check day w starts) (then-unique (refuses-is-check (λ e. omega arith)) (λ x y e f. e ∙ sym f)) (a .answer)
+        (b .answer) (p .answer) (q .answer)
