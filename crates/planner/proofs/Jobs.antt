@@ -42,7 +42,7 @@ module _ (rel : List ℕ) (n : ℕ) where
     there = λ t l u. w .there t l (omega arith);
   }
 
-module _ (day : Day) (rel dead lowest : List ℕ) (n : ℕ) (p : Prepared day rel dead lowest n) where
+module _ {day : Day} {rel dead lowest : List ℕ} {n : ℕ} (p : Prepared day rel dead lowest n) where
   pub prepared-fewer : (m : ℕ) → m ≤ n → Prepared day rel dead lowest m
   prepared-fewer m h = record {
     slots = p .slots;

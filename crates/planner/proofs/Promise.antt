@@ -14,9 +14,11 @@ use Rattle.day.specs.Answer.{says, done, no-plan}
 use Rattle.day.specs.Refusal.{_then_, stops, goes-on, Passed}
 use Rattle.day.specs.Check.{ListCheck}
 use Rattle.day.proofs.Cases.{on-eq, on-le}
-use Rattle.day.proofs.Refusal.{IsCheck, then-unique, then-next}
+use Rattle.day.proofs.Refusal.{IsCheck, then-unique, then-next, then-is-check, refuses-is-check}
+use Rattle.day.proofs.Check.{list-is-check}
 use Rattle.day.proofs.Best.{best-costs, best-unique}
-use Rattle.planner.specs.Promise.{Verdict, costs, none-proper, BestIn, Planned, Never}
+use Rattle.planner.specs.Table.{need}
+use Rattle.planner.specs.Promise.{Verdict, costs, none-proper, BestIn, Planned, Never, PlanCheck}
 
 verdict-unique : (day : Day) (w : Windows) (a b : Answer) → Verdict day w a → Verdict day w b → a ≡ b
 verdict-unique day w a b (costs p P e) (costs q Q f) = e ∙ ap (λ (c : ℕ). says done c 0) (best-costs day w p q P Q) ∙ sym f
@@ -80,3 +82,16 @@ list-not-no-plan day w a (stops (goes-on m (stops p))) e = omega (arith, ap code
 list-not-no-plan day w a (stops (goes-on m (goes-on n (stops p)))) e = omega (arith, ap code-of (p .says))
 list-not-no-plan day w a (stops (goes-on m (goes-on n (goes-on o p)))) e = omega (arith, ap code-of (p .says))
 list-not-no-plan day w a (goes-on m p) e = omega (arith, ap code-of p)
+
+-- codes 1 to 6 are checks, so that two outcomes of the planner are equal
+pub plan-is-check : (day : Day) (w : Windows) (starts table : List ℕ) → IsCheck (PlanCheck day w starts table)
+plan-is-check day w starts table =
+    then-is-check list-is-check (then-is-check (refuses-is-check (λ e. omega arith)) (refuses-is-check (λ e. omega arith)))
+
+pub plan-unique : (day : Day) (w : Windows) (starts table : List ℕ) (a b : Answer) (p t q u : List ℕ)
+    → Planned (PlanCheck day w starts table) (need (day .slots) (w .count)) day w starts table a p t
+    → Planned (PlanCheck day w starts table) (need (day .slots) (w .count)) day w starts table b q u
+    → (a ≡ b) × (p ≡ q) × (t ≡ u)
+plan-unique day w starts table =
+    planned-unique (PlanCheck day w starts table) (need (day .slots) (w .count)) day w starts table
+    (plan-is-check day w starts table)

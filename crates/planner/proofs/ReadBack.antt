@@ -1,18 +1,16 @@
 -- The laws of reading back: a job that isn't released in the span is passed over, one that is splits it. Assumes nothing.
 use Prim.Native.Nat.{ℕ, suc, _+_, _-_, _≤_, _<_}
 use mathlib.Core.Path.{_≡_, refl, sym, ap, _∙_}
-use mathlib.Core.Bool.{true, false, _&&_}
 use mathlib.Core.List.{List}
 use native.Mathlib.Numerals.{add-one}
 use native.Mathlib.Omega.{arith}
-use lib.Dec.{leb, ltb}
 use lib.ListN.{length, set, length-set}
 use lib.Seq.{getD-set-same, getD-set-other}
 use Rattle.day.specs.declared.Day.{Day}
 use Rattle.day.specs.Windows.{at}
-use Rattle.day.proofs.Cases.{on-eq, on-le, give, not-both}
-use Rattle.rule.specs.Span.{Problem, in-span, value, split, read-back}
-use Rattle.rule.proofs.Value.{In, in-span-true, in-span-intro, value-out, sides-is, LatestBest, split-found, read-back-out, read-back-last, read-back-left, read-back-right}
+use Rattle.day.proofs.Cases.{on-eq, on-le, give}
+use Rattle.rule.specs.Span.{Problem, value, split, read-back}
+use Rattle.rule.proofs.Value.{In, value-out, sides-is, LatestBest, split-found, read-back-out, read-back-last, read-back-left, read-back-right}
 use Rattle.planner.specs.Table.{Span, need}
 use Rattle.planner.specs.Jobs.{none, jobs, Prepared}
 use Rattle.planner.specs.Level.{Level}
@@ -69,16 +67,8 @@ module _ (P : Problem) where
       let at-split : ReadBack P k s (split P k s e) (set old k (t - 1)) left = rw (← q) l in
       rw p (back-in k s e inside best (t - 1) old left new (omega arith) room at-split (rw (add-one, q) at r))
 
-  pub inside-true : (s e k : ℕ) → (leb s (P .release k) && ltb (P .release k) e) ≡ true → In P s e k
-  unfolding in-span
-  inside-true s e k h = in-span-true P s e k h
-
-  pub inside-false : (s e k : ℕ) → (leb s (P .release k) && ltb (P .release k) e) ≡ false → In P s e k → ⊥
-  unfolding in-span
-  inside-false s e k h i = not-both (in-span-intro P s e k i) h
-
 -- the highest of the lowest n jobs has the number k
-module _ (day : Day) (rel dead lowest table : List ℕ) (n k s e : ℕ) (p : n ≡ suc k) (r : Readable day rel dead lowest table n s e) where
+module _ {day : Day} {rel dead lowest table : List ℕ} {n s e : ℕ} (r : Readable day rel dead lowest table n s e) (k : ℕ) (p : n ≡ suc k) where
   abbrev P : Problem
   P = jobs day rel dead
 
@@ -87,7 +77,7 @@ module _ (day : Day) (rel dead lowest table : List ℕ) (n k s e : ℕ) (p : n �
 
   fewer : (a b : ℕ) → Span (day .slots) a b → value P k a b < none → Readable day rel dead lowest table k a b
   fewer a b v h = record {
-    prepared = prepared-fewer day rel dead lowest n (r .prepared) k (omega arith);
+    prepared = prepared-fewer (r .prepared) k (omega arith);
     long = omega (arith, r .long, need-more (day .slots) k n (omega arith));
     levels = λ i l. r .levels i (omega arith);
     span = v;

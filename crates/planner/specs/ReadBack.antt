@@ -1,6 +1,7 @@
 -- The plan read back from the table.
 use Prim.Native.Nat.{ℕ, _+_, _≤_, _<_}
 use mathlib.Core.Path.{_≡_}
+use mathlib.Core.Bool.{Bool, true, false}
 use mathlib.Core.List.{List}
 use lib.ListN.{length}
 use Rattle.day.specs.declared.Day.{Day}
@@ -17,6 +18,11 @@ pub record Readable (day : Day) (rel dead lowest table : List ℕ) (k s e : ℕ)
   pub levels : (i : ℕ) → i ≤ k → Level (jobs day rel dead) (day .slots) i table
   pub span : Span (day .slots) s e
   pub some : value (jobs day rel dead) k s e < none
+
+-- b says whether r lies from s on and before e
+pub record Tells (b : Bool) (s e r : ℕ) : Type 0 where
+  pub yes : b ≡ true → (s ≤ r) × (r < e)
+  pub no : b ≡ false → (s ≤ r) × (r < e) → ⊥
 
 -- job i is one of the lowest k and released in the span from s to e
 abbrev pub Among : Problem → ℕ → ℕ → ℕ → ℕ → Type 0

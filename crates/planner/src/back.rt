@@ -1,14 +1,12 @@
 // Reading the plan back from the filled table.
 ghost use mathlib.Core.Path.{_≡_};
-ghost use mathlib.Core.Bool.{_&&_};
 ghost use Prim.Native.Nat.{ℕ, _+_, _<_, _≤_};
-ghost use lib.Dec.{leb, ltb};
 ghost use lib.ListN.{length};
 ghost use Rattle.day.specs.Windows.{at};
 ghost use Rattle.rule.specs.Span.{split};
 ghost use Rattle.planner.specs.Written.{Written};
 ghost use Rattle.planner.specs.Jobs.{jobs};
-ghost use Rattle.planner.specs.ReadBack.{Readable, ReadBack};
+ghost use Rattle.planner.specs.ReadBack.{Readable, Tells, ReadBack};
 use crate::rows;
 use day::Day;
 use day::wide;
@@ -49,7 +47,7 @@ fn split_of(
 // Whether `job` is released in the span from `from` to `to`.
 fn inside(rel: &[u16], job: usize, from: usize, to: usize) -> bool
     requires { ⌜ job < length (now rel) ⌝ }
-    ensures { λ b. ⌜ b ≡ (leb from (at (now (rel .entry)) job) && ltb (at (now (rel .entry)) job) to) ⌝ }
+    ensures { λ b. ⌜ Tells b from to (at (now (rel .entry)) job) ⌝ }
 {
     let release = wide(rel[job]);
     if from <= release { release < to } else { false }

@@ -1,11 +1,11 @@
 -- `planner::back::read_back` meets its contract. It calls itself with one job fewer. Assumes nothing.
 use Prim.Native.Nat.{_+_, _-_, _≤_}
-use mathlib.Core.Path.{_≡_, sym, _∙_}
+use mathlib.Core.Path.{_≡_, _∙_}
 use native.Mathlib.Omega.{arith}
 use lib.ListN.{length-set}
 use denote.Ref.{now}
 use Rattle.planner.specs.Jobs.{jobs}
-use Rattle.planner.proofs.ReadBack.{back-none, back-passed, back-split, inside-true, inside-false, readable-out, readable-split, readable-left, readable-right}
+use Rattle.planner.proofs.ReadBack.{back-none, back-passed, back-split, readable-out, readable-split, readable-left, readable-right}
 use Prim.Native.Nat.{ℕ, _<_}
 use borrow.Fn.Kinds.{In}
 use borrow.Fn.PlainCycle.{Measures, is, falls, and}
@@ -68,7 +68,7 @@ read-back-split-of-requires : (t : ℕ) → read-back-lts.Need-split-of-requires
 read-back-split-of-requires t c κs =
     let a = c .before .before .before .before .before .before .before .before .args in
     let whole : a .count - 1 + 1 ≡ a .count = omega arith in
-    let i = inside-true (jobs (a .day) (now (a .rel)) (now (a .dead))) (a .from) (a .to) (a .count - 1) (sym (c .before .inside .ensures) ∙ c .if2 .taken) in
+    let i = c .before .inside .ensures .yes (c .if2 .taken) in
     (rw whole (c .before .before .before .before .before .before .before .before .pre .1 .0), i)
 
 read-back-sub-starts : (t : ℕ) → read-back-lts.Need-sub-starts (
@@ -82,8 +82,8 @@ read-back-sub-starts : (t : ℕ) → read-back-lts.Need-sub-starts (
 read-back-sub-starts t c =
     let a = c .before .before .before .before .before .before .before .before .before .args in
     let r = c .before .before .before .before .before .before .before .before .before .pre .1 .0 in
-    let i = inside-true (jobs (a .day) (now (a .rel)) (now (a .dead))) (a .from) (a .to) (a .count - 1) (sym (c .before .before .inside .ensures) ∙ c .before .if2 .taken) in
-    let best = readable-split (a .day) (now (a .rel)) (now (a .dead)) (now (a .lowest)) (now (a .table)) (a .count) (a .count - 1) (a .from) (a .to) (omega arith) r i in
+    let i = c .before .before .inside .ensures .yes (c .before .if2 .taken) in
+    let best = readable-split r (a .count - 1) (omega arith) i in
     omega (arith, r .prepared .after-far (a .count - 1) (omega arith), best .may .low)
 
 read-back-cast-starts : (t : ℕ) → read-back-lts.Need-cast-starts (
@@ -97,8 +97,8 @@ read-back-cast-starts : (t : ℕ) → read-back-lts.Need-cast-starts (
 read-back-cast-starts t c =
     let a = c .before .before .before .before .before .before .before .before .before .args in
     let r = c .before .before .before .before .before .before .before .before .before .pre .1 .0 in
-    let i = inside-true (jobs (a .day) (now (a .rel)) (now (a .dead))) (a .from) (a .to) (a .count - 1) (sym (c .before .before .inside .ensures) ∙ c .before .if2 .taken) in
-    let best = readable-split (a .day) (now (a .rel)) (now (a .dead)) (now (a .lowest)) (now (a .table)) (a .count) (a .count - 1) (a .from) (a .to) (omega arith) r i in
+    let i = c .before .before .inside .ensures .yes (c .before .if2 .taken) in
+    let best = readable-split r (a .count - 1) (omega arith) i in
     omega (arith, best .below, r .span, r .prepared .slots)
 
 read-back-mul-starts : (t : ℕ) → read-back-lts.Need-mul-starts (
@@ -131,8 +131,8 @@ read-back-read-back-requires : (t : ℕ) → read-back-lts.Need-read-back-requir
 ) (read-back-at t) read-back.Post
 read-back-read-back-requires t c κs =
     let a = c .before .before .before .before .before .before .before .before .before .before .args in
-    let i = inside-true (jobs (a .day) (now (a .rel)) (now (a .dead))) (a .from) (a .to) (a .count - 1) (sym (c .before .before .before .inside .ensures) ∙ c .before .before .if2 .taken) in
-    (omega arith, (readable-left (a .day) (now (a .rel)) (now (a .dead)) (now (a .lowest)) (now (a .table)) (a .count) (a .count - 1) (a .from) (a .to) (omega arith) (c .before .before .before .before .before .before .before .before .before .before .pre .1 .0) i _ (c .before .split-of .ensures), simp length-set (omega arith)))
+    let i = c .before .before .before .inside .ensures .yes (c .before .before .if2 .taken) in
+    (omega arith, (readable-left (c .before .before .before .before .before .before .before .before .before .before .pre .1 .0) (a .count - 1) (omega arith) i _ (c .before .split-of .ensures), simp length-set (omega arith)))
 
 read-back-add-read-back : (t : ℕ) → read-back-lts.Need-add-read-back (
   inside-reads.Asked,
@@ -144,8 +144,8 @@ read-back-add-read-back : (t : ℕ) → read-back-lts.Need-add-read-back (
 ) (read-back-at t) read-back.Post
 read-back-add-read-back t c =
     let a = c .before .before .before .before .before .before .before .before .before .before .before .before .before .args in
-    let i = inside-true (jobs (a .day) (now (a .rel)) (now (a .dead))) (a .from) (a .to) (a .count - 1) (sym (c .before .before .before .before .before .before .inside .ensures) ∙ c .before .before .before .before .before .if2 .taken) in
-    let best = readable-split (a .day) (now (a .rel)) (now (a .dead)) (now (a .lowest)) (now (a .table)) (a .count) (a .count - 1) (a .from) (a .to) (omega arith) (c .before .before .before .before .before .before .before .before .before .before .before .before .before .pre .1 .0) i in
+    let i = c .before .before .before .before .before .before .inside .ensures .yes (c .before .before .before .before .before .if2 .taken) in
+    let best = readable-split (c .before .before .before .before .before .before .before .before .before .before .before .before .before .pre .1 .0) (a .count - 1) (omega arith) i in
     omega (arith, best .below)
 
 read-back-read-back-requires-2 : (t : ℕ) → read-back-lts.Need-read-back-requires-2 (
@@ -158,8 +158,8 @@ read-back-read-back-requires-2 : (t : ℕ) → read-back-lts.Need-read-back-requ
 ) (read-back-at t) read-back.Post
 read-back-read-back-requires-2 t c κs =
     let a = c .before .before .before .before .before .before .before .before .before .before .before .before .before .before .args in
-    let i = inside-true (jobs (a .day) (now (a .rel)) (now (a .dead))) (a .from) (a .to) (a .count - 1) (sym (c .before .before .before .before .before .before .before .inside .ensures) ∙ c .before .before .before .before .before .before .if2 .taken) in
-    (omega arith, (readable-right (a .day) (now (a .rel)) (now (a .dead)) (now (a .lowest)) (now (a .table)) (a .count) (a .count - 1) (a .from) (a .to) (omega arith) (c .before .before .before .before .before .before .before .before .before .before .before .before .before .before .pre .1 .0) i _ (c .before .before .before .before .before .split-of .ensures), omega (arith, simp length-set at (c .before .before .before .read-back .ensures .long))))
+    let i = c .before .before .before .before .before .before .before .inside .ensures .yes (c .before .before .before .before .before .before .if2 .taken) in
+    (omega arith, (readable-right (c .before .before .before .before .before .before .before .before .before .before .before .before .before .before .pre .1 .0) (a .count - 1) (omega arith) i _ (c .before .before .before .before .before .split-of .ensures), omega (arith, simp length-set at (c .before .before .before .read-back .ensures .long))))
 
 read-back-same-length : (t : ℕ) → read-back-lts.Need-same-length (
   inside-reads.Asked,
@@ -182,8 +182,8 @@ read-back-returns-2 : (t : ℕ) → read-back-lts.Need-returns-2 (
 read-back-returns-2 t c =
     let a = c .before .before .before .before .before .before .before .before .before .before .before .before .before .before .before .before .before .args in
     let P = jobs (a .day) (now (a .rel)) (now (a .dead)) in
-    let i = inside-true P (a .from) (a .to) (a .count - 1) (sym (c .before .before .before .before .before .before .before .before .before .before .inside .ensures) ∙ c .before .before .before .before .before .before .before .before .before .if2 .taken) in
-    let best = readable-split (a .day) (now (a .rel)) (now (a .dead)) (now (a .lowest)) (now (a .table)) (a .count) (a .count - 1) (a .from) (a .to) (omega arith) (c .before .before .before .before .before .before .before .before .before .before .before .before .before .before .before .before .before .pre .1 .0) i in
+    let i = c .before .before .before .before .before .before .before .before .before .before .inside .ensures .yes (c .before .before .before .before .before .before .before .before .before .if2 .taken) in
+    let best = readable-split (c .before .before .before .before .before .before .before .before .before .before .before .before .before .before .before .before .before .pre .1 .0) (a .count - 1) (omega arith) i in
     back-split P (a .count) (a .count - 1) (a .from) (a .to) (c .before .before .before .before .before .before .before .before .split-of .result) _ _ _ (omega arith) (c .before .before .before .before .before .before .before .before .split-of .ensures) i best
     (omega (arith, (c .before .before .before .before .before .before .before .before .before .before .before .before .before .before .before .before .before .pre .1 .0) .prepared .after-far (a .count - 1) (omega (arith, c .before .before .before .before .before .before .before .before .before .before .before .if1 .left)), best .may .low, c .before .before .before .before .before .before .before .before .split-of .ensures)) (omega (arith, c .before .before .before .before .before .before .before .before .before .before .before .before .before .before .before .before .before .pre .1 .1, c .before .before .before .before .before .before .before .before .before .before .before .if1 .left)) (c .before .before .before .before .before .before .read-back .ensures) (c .before .before .read-back2 .ensures)
 
@@ -199,8 +199,8 @@ read-back-read-back-requires-3 t c κs =
     let a = c .before .before .before .before .before .before .before .before .before .args in (
       omega arith,
       (
-        readable-out (a .day) (now (a .rel)) (now (a .dead)) (now (a .lowest)) (now (a .table)) (a .count) (a .count - 1) (a .from) (a .to) (omega arith) (c .before .before .before .before .before .before .before .before .before .pre .1 .0)
-            (inside-false (jobs (a .day) (now (a .rel)) (now (a .dead))) (a .from) (a .to) (a .count - 1) (sym (c .before .before .inside .ensures) ∙ c .before .if2 .left)),
+        readable-out (c .before .before .before .before .before .before .before .before .before .pre .1 .0) (a .count - 1) (omega arith)
+            (c .before .before .inside .ensures .no (c .before .if2 .left)),
         omega arith,
       ),
     )
@@ -227,7 +227,7 @@ read-back-returns-3 t c =
     let a = c .before .before .before .before .before .before .before .before .before .before .before .before .args in
     let P = jobs (a .day) (now (a .rel)) (now (a .dead)) in
     back-passed P (a .count) (a .count - 1) (a .from) (a .to) _ _ (omega arith)
-    (inside-false P (a .from) (a .to) (a .count - 1) (sym (c .before .before .before .before .before .inside .ensures) ∙ c .before .before .before .before .if2 .left)) (c .before .before .read-back3 .ensures)
+    (c .before .before .before .before .before .inside .ensures .no (c .before .before .before .before .if2 .left)) (c .before .before .read-back3 .ensures)
 
 pub +read-back-spec : {M : Type 1} → statement M
 +read-back-spec = close μ-read-back λ t. read-back-lts.spec (

@@ -1,5 +1,8 @@
 -- `planner::back::inside` meets its contract. Assumes nothing.
-use borrow.Author.Tests.{le-leb, lt-leb}
+use mathlib.Core.Path.{_≡_, refl}
+use native.Mathlib.Omega.{arith}
+use borrow.Author.Tests.{ltb-true, ltb-false}
+use Rattle.day.proofs.Cases.{not-both}
 use borrow.Author.Needs.{needs}
 use Rattle.planner.proofs.back.inside.Statement.{statement}
 use Rattle.planner.proofs.back.inside.Tie as tie
@@ -14,10 +17,14 @@ wide-requires : tie.Need-wide-requires
 wide-requires c κs = search needs
 
 returns : tie.Need-returns
-returns c = rw (← c .before .wide .ensures .0, le-leb _ _ (c .if1 .taken))
+returns c =
+    record {
+      yes = λ h. (omega arith, omega (arith, ltb-true (c .before .wide .result) (c .before .before .before .before .args .to) h));
+      no = λ h i. omega (arith, ltb-false (c .before .wide .result) (c .before .before .before .before .args .to) h, i .1);
+    }
 
 returns-2 : tie.Need-returns-2
-returns-2 c = rw (← c .before .wide .ensures .0, lt-leb _ _ (c .if1 .left))
+returns-2 c = record { yes = λ h. absurd (not-both h refl); no = λ h i. omega (arith, i .0) }
 
 pub inside-spec : {M : Type 1} → statement M
 inside-spec = tie.close (tie.spec mul-wide shared-slice-read-wide wide-requires returns returns-2)

@@ -87,7 +87,7 @@ add-if2 c =
     let r = c .before .before .before .before .before .before .before .before .before .before .before .before .before .before .before .before .before .pre .0 in
     let point = c .before .before .before .before .before .before .loop .point in
     let level = r .levels (a .job) (omega arith) in
-    let fits = values-fit (a .day) (now (a .rel)) (now (a .dead)) (now (a .lowest)) (a .job + 1) (r .prepared) (a .job) in
+    let fits = values-fit (r .prepared) (a .job) in
     omega (arith, level (a .from) point (omega arith, omega arith), fits (a .from) point, level (point + 1) (a .to) (omega arith, omega arith), fits (point + 1) (a .to))
 
 add-point : tie.Need-add-point Inv-loop μ-loop
@@ -111,7 +111,7 @@ loop-again c =
       ⊎-elim
           (λ w.
           w .4 ∙ sym (found-here P (a .job) (a .from) (a .to) (l .point)
-          (splits-unmarked (a .day) (now (a .rel)) (now (a .dead)) (now (a .lowest)) (a .job + 1) (r .prepared) (a .job) (l .point) (omega arith) (omega arith) (omega arith) (omega arith))
+          (splits-unmarked (r .prepared) (a .job) (l .point) (omega arith) (omega arith) (omega arith) (omega arith))
           (sym (sum _ _ (w .1 .ensures) (w .2 .ensures)) ∙ w .3 .taken ∙ whole)))
           (⊎-elim
           (λ w.
@@ -119,7 +119,7 @@ loop-again c =
           (λ q. w .3 .left (sum _ _ (w .1 .ensures) (w .2 .ensures) ∙ q ∙ sym whole))))
           (λ w.
           w .1 ∙ l .inv .3 ∙ sym (found-unsplit P (a .job) (a .from) (a .to) (l .point)
-          (splits-not-marked (a .day) (now (a .rel)) (now (a .dead)) (now (a .lowest)) (a .job + 1) (r .prepared) (a .job) (l .point) (omega arith) (omega arith) (omega arith)))))
+          (splits-not-marked (r .prepared) (a .job) (l .point) (omega arith) (omega arith) (omega arith)))))
           (c .if1 .came),
     )
 

@@ -81,7 +81,7 @@ lower-requires c κs =
     let split = c .before .before .before .before .before .before .before .loop .split in
     let P = jobs (a .day) (now (a .rel)) (now (a .dead)) in
     let level = c .before .before .before .before .before .before .before .before .before .before .before .before .before .before .before .before .before .before .pre .1 .0 .1 in
-    let fits = values-fit (a .day) (now (a .rel)) (now (a .dead)) (now (a .lowest)) (a .job + 1) (c .before .before .before .before .before .before .before .before .before .before .before .before .before .before .before .before .before .before .pre .0) (a .job) in
+    let fits = values-fit (c .before .before .before .before .before .before .before .before .before .before .before .before .before .before .before .before .before .before .pre .0) (a .job) in
     let left = level (a .from) split (omega arith, omega arith) in (
       (omega arith, omega arith, omega (arith, row-below slots (a .job) (a .job) (split + 1) (c .before .row-of .result) (omega arith) (omega arith) (c .before .row-of .ensures))),
       λ e h l.
@@ -116,14 +116,14 @@ loop-again c =
           (λ w.
           rw (w .7)
           (sums-lower P (a .job) slots (a .from) (l .split) (w .2 .result) (w .1 .result) (now (a .table)) (l .sums) _
-          (splits-unmarked (a .day) (now (a .rel)) (now (a .dead)) (now (a .lowest)) (a .job + 1) p (a .job) (l .split) (omega arith) (omega arith) (omega arith) (omega arith))
+          (splits-unmarked p (a .job) (l .split) (omega arith) (omega arith) (omega arith) (omega arith))
           (w .1 .ensures ∙ level (a .from) (l .split) (omega (arith, c .before .before .before .before .before .before .before .before .before .before .before .before .before .before .before .pre .1 .1 .0), omega arith))
           (λ e h u. level-read P slots (a .job) (l .split + 1) e (w .2 .result) (now (a .table)) level (w .2 .ensures) (omega arith, u))
           (l .inv .4) (rw (c .before .before .before .before .before .before .before .before .before .wide .ensures .0) at (w .4 .ensures))))
           (λ w.
           rw (w .1)
           (sums-skip P (a .job) slots (a .from) (l .split) (l .sums)
-          (splits-not-marked (a .day) (now (a .rel)) (now (a .dead)) (now (a .lowest)) (a .job + 1) p (a .job) (l .split) (omega arith) (omega arith) (omega arith))
+          (splits-not-marked p (a .job) (l .split) (omega arith) (omega arith) (omega arith))
           (l .inv .4)))
           (c .if1 .came),
     )

@@ -32,7 +32,7 @@ fill-level-requires : tie.Need-fill-level-requires Inv-loop μ-loop
 fill-level-requires c κs =
     let a = c .before .before .before .before .before .before .before .before .before .before .before .args in
     let l = c .before .before .loop in (
-      prepared-fewer (a .day) (now (a .rel)) (now (a .dead)) (now (a .lowest)) (a .count) (c .before .before .before .before .before .before .before .before .before .before .before .pre .0) (l .job + 1) (omega arith),
+      prepared-fewer (c .before .before .before .before .before .before .before .before .before .before .before .pre .0) (l .job + 1) (omega arith),
       (
         omega (arith, l .inv .1 .long, c .before .before .before .before .before .price-level .ensures .long, need-more (a .day .slots) (l .job + 1) (a .count) (omega arith)),
         l .inv .1 .levels (l .job) (omega arith),
