@@ -6,6 +6,7 @@ use Rattle.demands.proofs.Joined.{joined-accepted}
 use Rattle.demands.proofs.SideBySide.{joins-side-by-side, joins-seven}
 use Rattle.demands.proofs.Mirrored.{mirrored-accepted, mirrored-answer}
 use Rattle.demands.proofs.Moving.{moved-accepted, moving-keeps}
+use Rattle.demands.proofs.Ledger.{ledger-balances}
 use Rattle.demands.proofs.Examples.{examples-hold}
 use Rattle.demands.proofs.OneOutcome.{one-outcome}
 use Rattle.demands.proofs.Impostors.{no-impostor}
@@ -23,6 +24,7 @@ demands =
       mirrored = mirrored-answer;
       moved-accepted = moved-accepted;
       moving = moving-keeps;
+      ledger = ledger-balances;
       examples = examples-hold;
       one-outcome = one-outcome;
       no-impostor = no-impostor;

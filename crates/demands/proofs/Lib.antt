@@ -5,6 +5,7 @@ pub mod Joined
 pub mod SideBySide
 pub mod Mirrored
 pub mod Moving
+pub mod Ledger
 pub mod Test
 pub mod Computed
 pub mod Examples

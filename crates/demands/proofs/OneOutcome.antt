@@ -1,20 +1,14 @@
 -- Two outcomes that satisfy a promise are equal, cited from the crates that make the promises. Assumes nothing.
-use Prim.Native.Nat.{ℕ}
 use mathlib.Core.Path.{_≡_, sym, _∙_}
-use mathlib.Core.List.{List}
-use native.Mathlib.Omega.{arith}
 use Rattle.day.specs.declared.Answer.{Answer}
-use Rattle.day.specs.declared.Day.{Day}
-use Rattle.day.specs.Windows.{Windows}
 use Rattle.day.specs.Refusal.{_then_, Passed}
 use Rattle.day.proofs.Cases.{give}
-use Rattle.day.proofs.Refusal.{IsCheck, then-unique, then-is-check, refuses-is-check}
+use Rattle.day.proofs.Refusal.{IsCheck, then-unique}
 use Rattle.day.proofs.Check.{slots-is-check, power-is-check, jobs-is-check, list-is-check}
 use Rattle.day.proofs.Numbering.{numbering-unique}
-use Rattle.planner.specs.Table.{need}
-use Rattle.planner.specs.Promise.{PlanCheck}
-use Rattle.planner.proofs.Promise.{planned-unique}
+use Rattle.planner.proofs.Promise.{plan-unique}
 use Rattle.claim.proofs.Promise.{judged-unique, priced-unique, chosen-unique, handed-unique, next-unique}
+use Rattle.ledger.proofs.Promise.{ledgered-unique, shown-unique}
 use Rattle.moving.proofs.Unique.{moved-list-unique}
 use Rattle.dayfile.proofs.Unique.{read-unique, written-unique}
 use Rattle.demands.specs.OneOutcome.{AtMostOne, OneOutcome}
@@ -22,10 +16,6 @@ use Rattle.demands.specs.OneOutcome.{AtMostOne, OneOutcome}
 -- a check that passes or refuses
 check-unique : {Check : Answer → Type 0} → IsCheck Check → AtMostOne (Check then Passed)
 check-unique check = then-unique check (λ a b p q. p ∙ sym q)
-
-plan-is-check : (day : Day) (w : Windows) (starts table : List ℕ) → IsCheck (PlanCheck day w starts table)
-plan-is-check day w starts table =
-    then-is-check list-is-check (then-is-check (refuses-is-check (λ e. omega arith)) (refuses-is-check (λ e. omega arith)))
 
 both-same : {A B : Type 0} (x y : A × B) → x .0 ≡ y .0 → x .1 ≡ y .1 → x ≡ y
 both-same x y a b = rw (a, b)
@@ -42,15 +32,15 @@ one-outcome =
       check-list = λ day w. check-unique list-is-check;
       number-rows = numbering-unique;
       plan = λ day w starts table x y p q.
-          give
-          (planned-unique (PlanCheck day w starts table) (need (day .slots) (w .count)) day w starts table
-          (plan-is-check day w starts table) (x .0) (y .0) (x .1) (x .2) (y .1) (y .2) p q)
+          give (plan-unique day w starts table (x .0) (y .0) (x .1) (x .2) (y .1) (y .2) p q)
           (λ s. all-same x y (s .0) (s .1) (s .2));
       judge = judged-unique;
       price = priced-unique;
       which = chosen-unique;
       choose = handed-unique;
       next-job = next-unique;
+      ledger = ledgered-unique;
+      slot = shown-unique;
       move-list = λ slots by releases deadlines x y p q.
           give (moved-list-unique p q) (λ s. all-same x y (s .0) (s .1) (s .2));
       read = λ file releases deadlines x y p q. give (read-unique p q) (λ s. all-same x y (s .0) (s .1) (s .2));

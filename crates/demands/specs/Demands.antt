@@ -4,6 +4,7 @@ use Rattle.demands.specs.DayFile.{ReadsBack}
 use Rattle.demands.specs.SideBySide.{JoinedAccepted, JoinsSideBySide, JoinsSeven}
 use Rattle.demands.specs.Mirrored.{MirroredAccepted, MirroredAnswer}
 use Rattle.demands.specs.Moving.{MovedAccepted, MovingKeeps}
+use Rattle.demands.specs.Ledger.{LedgerBalances}
 use Rattle.demands.specs.Examples.{ExamplesHold}
 use Rattle.demands.specs.OneOutcome.{OneOutcome}
 use Rattle.demands.specs.Impostors.{NoImpostor}
@@ -22,6 +23,8 @@ pub record Demands : Type 0 where
   -- moving a list
   pub moved-accepted : MovedAccepted
   pub moving : MovingKeeps
+  -- the slot ledger
+  pub ledger : LedgerBalances
   -- P1 to P10
   pub examples : ExamplesHold
   -- two outcomes are equal

@@ -6,6 +6,7 @@ pub mod DayFile
 pub mod SideBySide
 pub mod Mirrored
 pub mod Moving
+pub mod Ledger
 pub mod Examples
 pub mod OneOutcome
 pub mod Impostors

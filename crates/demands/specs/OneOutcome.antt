@@ -18,6 +18,7 @@ use Rattle.claim.specs.Claim.{ClaimCheck, Priced}
 use Rattle.claim.specs.Rows.{NextJob, Judged}
 use Rattle.claim.specs.Choice.{Chosen, HandedBack}
 use Rattle.claim.proofs.Promise.{SamePart}
+use Rattle.ledger.specs.Promise.{Ledgered, SlotShown}
 use Rattle.moving.specs.Moving.{MovedList}
 use Rattle.dayfile.specs.declared.Reading.{Reading}
 use Rattle.dayfile.specs.Reader.{Read}
@@ -45,6 +46,9 @@ pub record OneOutcome : Type 0 where
   pub choose : (day : Day) (w : Windows) (own server part other : RefT (List ℕ)) → HandedBack day w own server part
       → HandedBack day w own server other → SamePart part other
   pub next-job : (rows : List ℕ) (from : ℕ) → AtMostOne (NextJob rows from)
+  -- ledger
+  pub ledger : (day : Day) (w : Windows) (starts : List ℕ) → AtMostOne (Ledgered day w starts)
+  pub slot : (day : Day) (w : Windows) (starts : List ℕ) (asked : ℕ) → AtMostOne (SlotShown day w starts asked)
   -- moving
   pub move-list : (slots : ℕ) (by : ℤ) (releases deadlines : List ℕ)
       → AtMostOne {A = Answer × List ℕ × List ℕ} (λ o. MovedList slots by releases deadlines (o .0) (o .1) (o .2))
