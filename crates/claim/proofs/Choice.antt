@@ -1,5 +1,5 @@
 -- Laws of the choice between two plans. Assumes nothing.
-use Prim.Native.Nat.{ℕ}
+use Prim.Native.Nat.{ℕ, _≤_, _<_}
 use mathlib.Core.Path.{_≡_, ap}
 use mathlib.Core.List.{List}
 use native.Mathlib.Omega.{arith}
@@ -13,6 +13,7 @@ use Rattle.day.proofs.Check.{list-is-check}
 use Rattle.day.proofs.Cases.{give, on-eq}
 use Rattle.claim.specs.Claim.{Fit, StartsCheck, Costs}
 use Rattle.claim.specs.Choice.{
+  plan-cost,
   own-plan,
   server-plan,
   Wins,
@@ -40,6 +41,13 @@ module _ (day : Day) (w : Windows) (own server : List ℕ) where
   named : {k : ℕ} {a : Answer} → Wins day w own server k → a ≡ says done k 0 → (NeitherCheck w own server then NamesWinner day w own server) a
   named win e = goes-on (winner-fit win) (record { winner = _; wins = win; says = e })
 
+  -- what holds of a plan's price, where it has one, holds of the plan's cost where it is fit
+  priced-holds : (starts : List ℕ) (q : Answer) → (StartsCheck w starts then Costs day w starts) q → (P : ℕ → Type 0)
+      → (q .code ≡ done → P (q .first)) → Fit w starts → P (plan-cost day w starts)
+  priced-holds starts q priced P holds fit =
+      on-eq (q .code) done (λ z. rw (priced-fit day w starts q priced z .1) at (holds z))
+      (λ z. absurd (priced-unfit day w starts q priced z fit))
+
   -- comparing the two prices finds the winner
   pub compared-named : (p q a : Answer) → (StartsCheck w own then Costs day w own) p → (StartsCheck w server then Costs day w server) q
       → Compared p q a → (NeitherCheck w own server then NamesWinner day w own server) a
@@ -47,21 +55,13 @@ module _ (day : Day) (w : Windows) (own server : List ℕ) where
       give (priced-fit day w own p priced-own code)
       (λ f.
       named
-      (own-wins (f .0)
-      (λ fit.
-      on-eq (q .code) done
-      (λ z. omega (arith, f .1, priced-fit day w server q priced-server z .1, least z))
-      (λ z. absurd (priced-unfit day w server q priced-server z fit))))
+      (own-wins (f .0) (priced-holds server q priced-server (λ x. plan-cost day w own ≤ x) (λ z. rw (f .1) at (least z))))
       e)
   compared-named p q a priced-own priced-server (takes-server code least e) =
       give (priced-fit day w server q priced-server code)
       (λ f.
       named
-      (server-wins (f .0)
-      (λ fit.
-      on-eq (p .code) done
-      (λ z. omega (arith, f .1, priced-fit day w own p priced-own z .1, least z))
-      (λ z. absurd (priced-unfit day w own p priced-own z fit))))
+      (server-wins (f .0) (priced-holds own p priced-own (λ x. plan-cost day w server < x) (λ z. rw (f .1) at (least z))))
       e)
   compared-named p q a priced-own priced-server (neither bad-own bad-server e) =
       stops

@@ -12,11 +12,14 @@ use Rattle.day.specs.Plan.{MayStart}
 use Rattle.day.specs.Gap.{cost}
 use Rattle.day.specs.Answer.{done}
 use Rattle.day.specs.Refusal.{_then_, stops, goes-on, Passed}
-use Rattle.day.specs.Check.{GoodRows, Accepted, ListCheck}
+use Rattle.day.specs.Check.{most-slots, GoodRows, Accepted, ListCheck}
 use Rattle.day.proofs.Cases.{on-le, on-eq}
-use Rattle.day.proofs.Refusal.{IsCheck, refuses-is-check, refuses-row-is-check, refuses-pair-is-check, then-is-check, then-clear, passed-clear, clear-first, clear-next, no-fault, no-row-at-fault}
+use Rattle.day.proofs.Refusal.{IsCheck, refuses-is-check, refuses-row-is-check, refuses-pair-is-check, then-is-check, then-passed, then-clear, passed-clear, clear-first, clear-next, no-fault, no-row-at-fault}
 use Rattle.day.proofs.Check.{list-is-check, clear-accepted}
 use Rattle.claim.specs.Claim.{Fit, Together, LengthCheck, WindowsCheck, ApartCheck, StartsCheck, ClaimCheck, Costs}
+use Rattle.claim.specs.declared.Claimed.{Claimed}
+use Rattle.claim.specs.Rows.{Placed, Judged}
+use Rattle.claim.proofs.Rows.{Cut, rows-cut}
 use Rattle.claim.proofs.Pair.{no-pair-at-fault}
 
 pub length-is-check : (w : Windows) (starts : List ℕ) → IsCheck (LengthCheck w starts)
@@ -105,12 +108,26 @@ pub priced-unfit : (day : Day) (w : Windows) (starts : List ℕ) (a : Answer) �
 priced-unfit day w starts a (stops p) e fit = fit-clear w starts fit a p
 priced-unfit day w starts a (goes-on clear p) e fit = e (ap (λ (x : Answer). x .code) p)
 
--- so is the list of a plan that was judged and not refused
-pub judged-accepted : (day : Day) (w : Windows) (starts : List ℕ) (a : Answer) → (ClaimCheck day w starts then Passed) a → a .code ≡ done
-    → Accepted day w
-judged-accepted day w starts a p e = clear-accepted (clear-first (passed-clear (claim-is-check day w starts) a p e))
-
 -- a check that passed answers with nothing else
-pub passed-says : {Check : Answer → Type 0} → IsCheck Check → (a : Answer) → (Check then Passed) a → a .code ≡ done → Passed a
+passed-says : {Check : Answer → Type 0} → IsCheck Check → (a : Answer) → (Check then Passed) a → a .code ≡ done → Passed a
 passed-says check a (stops p) e = absurd (check .not-done a p e)
 passed-says check a (goes-on clear p) e = p
+
+-- after a plan that was judged and not refused, what comes next answers
+pub placed-next : {w : Windows} {starts : List ℕ} {claimed : Claimed} {Next : Answer → Type 0} → Placed w starts claimed
+    → claimed .answer .code ≡ done → (a : Answer) → Next a → (StartsCheck w starts then Next) a
+placed-next {w} {starts} {claimed} p e a = then-passed (starts-is-check w starts) (claimed .answer) a (p .answer) e
+
+module _ {day : Day} {w : Windows} {starts : List ℕ} {claimed : Claimed} (p : Judged day w starts claimed) (e : claimed .answer .code ≡ done) where
+  pub judged-next : {Next : Answer → Type 0} (a : Answer) → Next a → (ClaimCheck day w starts then Next) a
+  judged-next a = then-passed (claim-is-check day w starts) (claimed .answer) a (p .answer) e
+
+  pub judged-says : Passed (claimed .answer)
+  judged-says = passed-says (claim-is-check day w starts) (claimed .answer) (p .answer) e
+
+  pub judged-slots : day .slots ≤ most-slots
+  judged-slots = clear-accepted (clear-first (passed-clear (claim-is-check day w starts) (claimed .answer) (p .answer) e)) .slots
+
+  -- the day's slots are a part of the rows
+  pub judged-cut : (slots : ℕ) → slots ≡ day .slots → Cut (claimed .rows) slots
+  judged-cut slots here = rows-cut (p .rows .accepted e) slots (omega (arith, judged-slots))

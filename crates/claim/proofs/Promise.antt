@@ -15,7 +15,7 @@ use Rattle.day.proofs.Cases.{on-eq, on-le}
 use Rattle.day.proofs.Refusal.{then-unique}
 use Rattle.day.proofs.Check.{list-is-check}
 use Rattle.claim.specs.declared.Claimed.{Claimed}
-use Rattle.claim.specs.Claim.{Priced, ClaimCheck}
+use Rattle.claim.specs.Claim.{Priced}
 use Rattle.claim.specs.Rows.{RowsBySlot, NextJob, Judged}
 use Rattle.claim.specs.Choice.{
   Wins,
@@ -40,8 +40,8 @@ rows-unique {n} {start} {rows} {others} p q =
     ext-getD 0 rows others (p .long ∙ sym (q .long))
     (λ t h. p .each t (omega (arith, p .long)) ∙ sym (q .each t (omega (arith, p .long))))
 
-pub judged-unique : (day : Day) (w : Windows) (starts : List ℕ) (c d : Claimed) → Judged (ClaimCheck day w starts) w starts c
-    → Judged (ClaimCheck day w starts) w starts d → c ≡ d
+pub judged-unique : (day : Day) (w : Windows) (starts : List ℕ) (c d : Claimed) → Judged day w starts c
+    → Judged day w starts d → c ≡ d
 judged-unique day w starts c d p q = rw (same-answer, same-rows)
   where
     same-answer : c .answer ≡ d .answer
@@ -50,8 +50,8 @@ judged-unique day w starts c d p q = rw (same-answer, same-rows)
     same-rows : c .rows ≡ d .rows
     same-rows =
         on-eq (c .answer .code) done
-        (λ e. rows-unique (p .accepted e) (q .accepted (rw same-answer at e)))
-        (λ e. rows-unique (p .refused e) (q .refused (rw same-answer at e)))
+        (λ e. rows-unique (p .rows .accepted e) (q .rows .accepted (rw same-answer at e)))
+        (λ e. rows-unique (p .rows .refused e) (q .rows .refused (rw same-answer at e)))
 
 next-at-most : {rows : List ℕ} {from a b : ℕ} → NextJob rows from a → NextJob rows from b → b ≤ a
 next-at-most {rows} {from} {a} {b} p q =

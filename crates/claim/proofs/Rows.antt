@@ -56,6 +56,16 @@ pub holds-job-false : (rows : List ℕ) (t : ℕ) → at rows t ≡ 0 → holds-
 unfolding holds-job
 holds-job-false rows t h = rw (eq-eqb (at rows t) 0 h)
 
+-- of rows that all start apart, each stands in its slot
+pub row-at-own : (n : ℕ) (start : Plan) (i : ℕ) → i < n → ((j k : ℕ) → j < n → k < n → start j ≡ start k → j ≡ k)
+    → row-at n start (start i) ≡ suc i
+row-at-own zero start i h apart = absurd (omega arith)
+row-at-own (suc n) start i h apart =
+    on-eq i n (λ e. rw e (row-at-here n start (start n) refl))
+    (λ e.
+    row-at-other n start (start i) (λ q. e (sym (apart n i (omega arith) h q)))
+    ∙ row-at-own n start i (omega arith) (λ j k a b. apart j k (omega arith) (omega arith)))
+
 -- a slot holds a job exactly if one of the rows takes it
 pub row-at-taken : (n : ℕ) (start : Plan) (t : ℕ) → not (eqb (row-at n start t) 0) ≡ taken n start t
 unfolding row-at taken
@@ -73,9 +83,16 @@ pub holds-taken : {n : ℕ} {start : Plan} {rows : List ℕ} → RowsBySlot n st
 unfolding holds-job
 holds-taken {n} {start} {rows} r m t within h = rw (rows-each r m t within h) (row-at-taken n start t)
 
--- the rows of a day's slots are as many as the slots
-pub rows-cut : {n : ℕ} {start : Plan} {rows : List ℕ} → RowsBySlot n start rows → (m : ℕ) → m ≤ most-slots → length (take m rows) ≡ m
-rows-cut {n} {start} {rows} r m within = length-take-le m rows (omega (arith, r .long))
+-- the first slots of the list are the slots of a day
+pub record Cut (rows : List ℕ) (slots : ℕ) : Type 0 where
+  pub small : slots ≤ most-slots
+  pub room : slots ≤ length rows
+  pub long : length (take slots rows) ≡ slots
+
+pub rows-cut : {n : ℕ} {start : Plan} {rows : List ℕ} → RowsBySlot n start rows → (slots : ℕ) → slots ≤ most-slots → Cut rows slots
+rows-cut {n} {start} {rows} r slots within =
+    let room : slots ≤ length rows = omega (arith, r .long) in
+    record { small = within; room = room; long = length-take-le slots rows room }
 
 pub next-within : {rows : List ℕ} {slot : ℕ} → NextJob rows 0 slot → slot ≤ length rows
 next-within {rows} {slot} next = on-le slot 0 (λ h. omega arith) (λ h. next .within h)

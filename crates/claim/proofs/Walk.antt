@@ -128,7 +128,7 @@ pub whole-cost-day : (day : Day) {n slots : ℕ} {start : Plan} {rows : List ℕ
     → RowsBySlot n start rows → whole-cost (day .power) (take slots rows) ≡ cost day n start
 unfolding cost
 whole-cost-day day {n} {slots} {start} {rows} all within r =
-    rw (all, rows-cut r (day .slots) within)
+    rw (all, rows-cut r (day .slots) within .long)
     (ap (total (price (day .power)))
     (gaps-same (holds-job (take (day .slots) rows)) (taken n start) (day .slots) 0
     (λ u h. holds-taken r (day .slots) u within (omega arith))))

@@ -5,13 +5,14 @@ use mathlib.Core.Bool.{Bool, true, cond, not}
 use mathlib.Core.List.{List}
 use lib.Dec.{eqb}
 use lib.ListN.{length}
-use Rattle.day.specs.declared.Answer.{Answer}
+use Rattle.day.specs.declared.Day.{Day}
 use Rattle.day.specs.Windows.{Windows, at}
 use Rattle.day.specs.Plan.{Plan}
 use Rattle.day.specs.Answer.{done}
 use Rattle.day.specs.Refusal.{_then_, Passed}
 use Rattle.day.specs.Check.{most-slots}
 use Rattle.claim.specs.declared.Claimed.{Claimed}
+use Rattle.claim.specs.Claim.{StartsCheck, ClaimCheck}
 
 -- the row, counted from 1, of the first n that starts at slot t; 0 where none does, the last where several do
 unfoldable pub row-at : ℕ → Plan → ℕ → ℕ
@@ -37,8 +38,17 @@ pub record NextJob (rows : List ℕ) (from slot : ℕ) : Type 0 where
   pub job : slot < length rows → HoldsJob rows slot
   pub none : (u : ℕ) → u < slot → from ≤ u → HoldsJob rows u → ⊥
 
--- a claimed plan, judged by a check: what it answers, and which row stands in each slot; under a refusal none does
-pub record Judged (Check : Answer → Type 0) (w : Windows) (starts : List ℕ) (claimed : Claimed) : Type 0 where
-  pub answer : (Check then Passed) (claimed .answer)
+-- the rows beside the answer to a claimed plan: of an accepted plan the row in each slot, under a refusal none
+pub record RowsBeside (w : Windows) (starts : List ℕ) (claimed : Claimed) : Type 0 where
   pub accepted : claimed .answer .code ≡ done → RowsBySlot (w .count) (at starts) (claimed .rows)
   pub refused : (claimed .answer .code ≡ done → ⊥) → RowsBySlot 0 (at starts) (claimed .rows)
+
+-- the starts of a claimed plan, judged for a list that has passed codes 1 to 4
+pub record Placed (w : Windows) (starts : List ℕ) (claimed : Claimed) : Type 0 where
+  pub answer : (StartsCheck w starts then Passed) (claimed .answer)
+  pub rows : RowsBeside w starts claimed
+
+-- a claimed plan, judged
+pub record Judged (day : Day) (w : Windows) (starts : List ℕ) (claimed : Claimed) : Type 0 where
+  pub answer : (ClaimCheck day w starts then Passed) (claimed .answer)
+  pub rows : RowsBeside w starts claimed

@@ -8,8 +8,8 @@ ghost use Rattle.day.specs.Windows.{windows};
 ghost use Rattle.day.specs.Answer.{says, done};
 ghost use Rattle.day.specs.Refusal.{_then_};
 ghost use Rattle.day.specs.Check.{most-jobs, most-slots, GoodRows, Accepted};
-ghost use Rattle.claim.specs.Claim.{StartsCheck, ClaimCheck, Costs, Priced};
-ghost use Rattle.claim.specs.Rows.{Judged};
+ghost use Rattle.claim.specs.Claim.{StartsCheck, Costs, Priced};
+ghost use Rattle.claim.specs.Rows.{Placed, Judged};
 ghost use Rattle.claim.specs.Choice.{Compared, Chosen, HandedBack};
 use day::Answer;
 use day::Day;
@@ -29,7 +29,7 @@ pub struct Claimed {
 // Judges the starts for a list that has passed codes 1 to 4.
 fn place(releases: &[u16], deadlines: &[u16], starts: &[u16]) -> Claimed
     requires { ⌜ GoodRows most-jobs most-slots (windows (now releases) (now deadlines)) ⌝ }
-    ensures { λ c. ⌜ Judged (StartsCheck (windows (now (releases .entry)) (now (deadlines .entry))) (now (starts .entry))) (windows (now (releases .entry)) (now (deadlines .entry))) (now (starts .entry)) c ⌝ }
+    ensures { λ c. ⌜ Placed (windows (now (releases .entry)) (now (deadlines .entry))) (now (starts .entry)) c ⌝ }
 {
     let answer = check::check_starts(releases, deadlines, starts);
     if answer.code != code::DONE {
@@ -42,7 +42,7 @@ fn place(releases: &[u16], deadlines: &[u16], starts: &[u16]) -> Claimed
 
 // Judges a claimed plan as pricing, ledger and slot record do: codes 1 to 5, 14 over all rows, then 15.
 pub fn judge(day: Day, releases: &[u16], deadlines: &[u16], starts: &[u16]) -> Claimed
-    ensures { λ c. ⌜ Judged (ClaimCheck day (windows (now (releases .entry)) (now (deadlines .entry))) (now (starts .entry))) (windows (now (releases .entry)) (now (deadlines .entry))) (now (starts .entry)) c ⌝ }
+    ensures { λ c. ⌜ Judged day (windows (now (releases .entry)) (now (deadlines .entry))) (now (starts .entry)) c ⌝ }
 {
     let answer = day::check_list(day, releases, deadlines);
     if answer.code != code::DONE {

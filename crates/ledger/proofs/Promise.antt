@@ -1,23 +1,26 @@
--- Each promise of the ledger determines its outcome. Assumes nothing.
-use Prim.Native.Nat.{ℕ, _≤_, _<_}
+-- Each promise of the ledger determines its outcome, and a proper plan's rows stand where they start. Assumes nothing.
+use Prim.Native.Nat.{ℕ, _+_, _≤_, _<_}
 use mathlib.Core.Path.{_≡_, sym, _∙_, ap}
 use mathlib.Core.List.{List}
 use native.Mathlib.Omega.{arith}
 use Rattle.day.specs.declared.Answer.{Answer}
 use Rattle.day.specs.declared.Day.{Day}
 use Rattle.day.specs.declared.Power.{Power}
-use Rattle.day.specs.Windows.{Windows}
+use Rattle.day.specs.Windows.{Windows, at}
 use Rattle.day.specs.Answer.{done, no-such-slot}
 use Rattle.day.specs.Refusal.{_then_, stops, goes-on, Passed, Refuses}
-use Rattle.day.proofs.Cases.{on-eq, on-le}
+use Rattle.day.proofs.Cases.{give, on-eq, on-le}
 use Rattle.day.proofs.Refusal.{refuses-is-check, then-unique, no-fault}
-use Rattle.claim.specs.Claim.{ClaimCheck}
+use Rattle.claim.specs.Claim.{Fit, ClaimCheck}
 use Rattle.claim.proofs.Claim.{claim-is-check}
+use Rattle.claim.proofs.Rows.{row-at-own}
+use Rattle.ledger.specs.declared.Fill.the-variants.{Job}
 use Rattle.ledger.specs.declared.Counts.{Counts}
 use Rattle.ledger.specs.declared.LedgerAnswer.{LedgerAnswer}
 use Rattle.ledger.specs.declared.SlotAnswer.{SlotAnswer}
+use Rattle.ledger.specs.Fills.{Fills, by-job}
 use Rattle.ledger.specs.Count.{Counted}
-use Rattle.ledger.specs.Promise.{Ledgered, SlotShown}
+use Rattle.ledger.specs.Promise.{plan-row, Ledgered, SlotShown}
 use Rattle.ledger.proofs.Count.{count-unique}
 use Rattle.ledger.proofs.Fills.{fills-unique}
 
@@ -69,3 +72,12 @@ shown-unique day w starts asked a b p q =
     same-answer =
         then-unique (claim-is-check day w starts) (then-unique (refuses-is-check (λ e. omega arith)) (λ x y e f. e ∙ sym f)) (a .answer)
         (b .answer) (p .answer) (q .answer)
+
+-- a row of a fit plan fills the slot in which it starts
+pub row-fills : (power : Power) (slots : ℕ) (w : Windows) (starts : List ℕ) → Fit w starts → (i : ℕ) → i < w .count
+    → Fills power slots (plan-row w starts) (at starts i) (Job (i + 1))
+row-fills power slots w starts fit i h =
+    give (row-at-own (w .count) (at starts) i h (fit .proper .apart))
+    (λ here.
+    let number : i + 1 ≡ plan-row w starts (at starts i) = omega (arith, here) in
+    rw number (by-job (λ e. omega (arith, here, e))))

@@ -69,7 +69,7 @@ module _ {power : Power} {slots : ℕ} {row other : ℕ → ℕ} (agree : Agree 
 module _ {power : Power} {n slots : ℕ} {start : Plan} {rows : List ℕ} (within : slots ≤ most-slots) (r : RowsBySlot n start rows) where
   pub plan-filled : {t : ℕ} {f : Fill} → t < slots → Fills power (length (take slots rows)) (at (take slots rows)) t f
       → Fills power slots (row-at n start) t f
-  plan-filled l p = fills-same (λ u h. rows-each r slots u within h) l (rw (rows-cut r slots within) at p)
+  plan-filled l p = fills-same (λ u h. rows-each r slots u within h) l (rw (rows-cut r slots within .long) at p)
 
   pub plan-counted : {c : Counts} → Counted power (length (take slots rows)) (at (take slots rows)) c → Counted power slots (row-at n start) c
-  plan-counted p = counted-same (λ u h. rows-each r slots u within h) (rw (rows-cut r slots within) at p)
+  plan-counted p = counted-same (λ u h. rows-each r slots u within h) (rw (rows-cut r slots within .long) at p)

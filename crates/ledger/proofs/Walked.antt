@@ -17,7 +17,7 @@ abbrev pub five : ℕ → ℕ → ℕ → ℕ → ℕ → Counts
 five before job awake asleep after = record { before = before; job = job; awake = awake; asleep = asleep; after = after }
 
 -- of a gap all slots are slept through, or none
-pub slept-at-most : {dark : ℕ} (power : Power) (g : ℕ) → dark ≡ cond (sleeping power g) g 0 → dark ≤ g
+slept-at-most : {dark : ℕ} (power : Power) (g : ℕ) → dark ≡ cond (sleeping power g) g 0 → dark ≤ g
 slept-at-most {dark} power g e =
     on (sleeping power g) (λ z. let all : dark ≡ g = e ∙ rw z in omega arith) (λ z. let nothing : dark ≡ 0 = e ∙ rw z in omega arith)
 
@@ -72,6 +72,17 @@ module _ {power : Power} {slots : ℕ} {row : ℕ → ℕ} where
     where
       before-here : first ≤ slot → first < slot
       before-here h = on-eq first slot (λ z. absurd (p .begun .fault (omega arith) (rw z here))) (λ z. omega arith)
+
+  -- the counts of one job more stay below the slots of the day
+  pub walked-room : {first job awake asleep empty slot dark : ℕ} → Walked power slots row first job awake asleep empty slot
+      → dark ≡ cond (sleeping power empty) empty 0
+      → (dark ≤ empty) × ((asleep + dark ≤ slots) × ((awake + (empty - dark) ≤ slots) × (job ≤ slots)))
+  walked-room {empty = empty} p e =
+      give (slept-at-most power empty e)
+      (λ l. (
+        l,
+        (omega (arith, p .sum, p .within), (omega (arith, p .sum, p .within), omega (arith, p .sum, p .within))),
+      ))
 
   -- a job ends the gap of the slots that wait
   gap-around : {first job awake asleep empty slot : ℕ} → Walked power slots row first job awake asleep empty slot → slot < slots → Busy row slot

@@ -15,8 +15,7 @@ returns : tie.Need-returns
 returns c =
     record {
       answer = then-group _ (then-refused _ (c .before .before .check-list .ensures) (c .if1 .taken));
-      accepted = λ e. absurd (c .if1 .taken e);
-      refused = λ e. rows-none _;
+      rows = record { accepted = λ e. absurd (c .if1 .taken e); refused = λ e. rows-none _ };
     }
 
 place-requires : tie.Need-place-requires
@@ -29,8 +28,7 @@ returns-2 c =
     record {
       answer = then-group _
           (then-passed list-is-check _ _ (c .before .before .before .check-list .ensures) (c .before .if1 .left) (c .place .ensures .answer));
-      accepted = c .place .ensures .accepted;
-      refused = c .place .ensures .refused;
+      rows = c .place .ensures .rows;
     }
 
 pub judge-spec : {M : Type 1} → statement M

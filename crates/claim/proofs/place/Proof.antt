@@ -11,7 +11,11 @@ check-starts-requires : tie.Need-check-starts-requires
 check-starts-requires c κs = search needs
 
 returns : tie.Need-returns
-returns c = record { answer = c .before .before .check-starts .ensures; accepted = λ e. absurd (c .if1 .taken e); refused = λ e. rows-none _ }
+returns c =
+    record {
+      answer = c .before .before .check-starts .ensures;
+      rows = record { accepted = λ e. absurd (c .if1 .taken e); refused = λ e. rows-none _ };
+    }
 
 rows-by-slot-requires : tie.Need-rows-by-slot-requires
 rows-by-slot-requires c κs =
@@ -21,7 +25,11 @@ rows-by-slot-requires c κs =
     (λ fit. ((c .before .before .before .before .before .before .pre .count, fit .long), fit-below (c .before .before .before .before .before .before .pre) fit))
 
 returns-2 : tie.Need-returns-2
-returns-2 c = record { answer = c .before .before .before .check-starts .ensures; accepted = λ e. c .rows-by-slot .ensures; refused = λ e. absurd (e (c .before .if1 .left)) }
+returns-2 c =
+    record {
+      answer = c .before .before .before .check-starts .ensures;
+      rows = record { accepted = λ e. c .rows-by-slot .ensures; refused = λ e. absurd (e (c .before .if1 .left)) };
+    }
 
 pub place-spec : {M : Type 1} → statement M
 place-spec = tie.close (tie.spec check-starts-requires returns rows-by-slot-requires returns-2)

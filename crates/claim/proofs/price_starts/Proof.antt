@@ -4,9 +4,9 @@ use mathlib.Core.Path.{sym, _∙_, ap}
 use native.Mathlib.Omega.{arith}
 use borrow.Author.Needs.{needs}
 use Rattle.day.specs.Answer.{says, done}
-use Rattle.day.specs.Windows.{windows}
-use Rattle.day.proofs.Refusal.{then-refused, then-passed}
-use Rattle.claim.proofs.Claim.{starts-is-check, good-rows-within}
+use Rattle.day.proofs.Cases.{give}
+use Rattle.day.proofs.Refusal.{then-refused}
+use Rattle.claim.proofs.Claim.{placed-next, good-rows-within}
 use Rattle.claim.proofs.Rows.{rows-cut}
 use Rattle.claim.proofs.Walk.{whole-cost-day}
 use Rattle.claim.proofs.price_starts.Statement.{statement}
@@ -23,34 +23,27 @@ wide-requires c κs = search needs
 
 array-share-prefix-rows : tie.Need-array-share-prefix-rows
 array-share-prefix-rows c =
-    omega (
-      arith,
-      c .wide .ensures,
-      c .before .before .before .before .before .before .before .before .before .pre .slots,
-      c .before .before .before .before .before .place .ensures .accepted (c .before .before .if1 .left) .long,
-    )
+    rows-cut (c .before .before .before .before .before .place .ensures .rows .accepted (c .before .before .if1 .left)) (c .wide .result)
+    (omega (arith, c .wide .ensures, c .before .before .before .before .before .before .before .before .before .pre .slots)) .room
 
 slice-aggregate-cost : tie.Need-slice-aggregate-cost
 slice-aggregate-cost c =
-    sym
-    (rows-cut (c .before .before .before .before .before .before .place .ensures .accepted (c .before .before .before .if1 .left)) _
-    (omega (arith, c .before .wide .ensures, c .before .before .before .before .before .before .before .before .before .before .pre .slots)))
+    sym (rows-cut (c .before .before .before .before .before .before .place .ensures .rows .accepted (c .before .before .before .if1 .left)) (c .before .wide .result)
+    (omega (arith, c .before .wide .ensures, c .before .before .before .before .before .before .before .before .before .before .pre .slots)) .long)
 
 cost-requires : tie.Need-cost-requires
 cost-requires c κs =
-    let long : _ = rows-cut (c .before .before .before .before .before .before .place .ensures .accepted (c .before .before .before .if1 .left)) (c .before .wide .result)
-    (omega (arith, c .before .wide .ensures, c .before .before .before .before .before .before .before .before .before .before .pre .slots))
-    in
-    omega (arith, long, c .before .wide .ensures, c .before .before .before .before .before .before .before .before .before .before .pre .slots)
+    give (rows-cut (c .before .before .before .before .before .before .place .ensures .rows .accepted (c .before .before .before .if1 .left)) (c .before .wide .result)
+    (omega (arith, c .before .wide .ensures, c .before .before .before .before .before .before .before .before .before .before .pre .slots)))
+    (λ cut. omega (arith, cut .long, cut .small))
 
 returns-2 : tie.Need-returns-2
 returns-2 c =
-    then-passed (starts-is-check (windows (c .before .before .before .before .before .before .before .before .before .before .before .args .releases .now) (c .before .before .before .before .before .before .before .before .before .before .before .args .deadlines .now)) (c .before .before .before .before .before .before .before .before .before .before .before .args .starts .now)) _ _
-    (c .before .before .before .before .before .before .before .place .ensures .answer) (c .before .before .before .before .if1 .left)
+    placed-next (c .before .before .before .before .before .before .before .place .ensures) (c .before .before .before .before .if1 .left) _
     (ap (λ (x : ℕ). says done x 0)
     (c .cost .ensures
     ∙ whole-cost-day (c .before .before .before .before .before .before .before .before .before .before .before .args .day) (c .before .before .wide .ensures .0) (c .before .before .before .before .before .before .before .before .before .before .before .pre .slots)
-    (c .before .before .before .before .before .before .before .place .ensures .accepted (c .before .before .before .before .if1 .left))))
+    (c .before .before .before .before .before .before .before .place .ensures .rows .accepted (c .before .before .before .before .if1 .left))))
 
 pub price-starts-spec : {M : Type 1} → statement M
 price-starts-spec =

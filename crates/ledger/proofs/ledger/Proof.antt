@@ -2,10 +2,8 @@
 use mathlib.Core.Path.{refl, sym}
 use native.Mathlib.Omega.{arith}
 use borrow.Author.Needs.{needs}
-use Rattle.day.specs.Windows.{windows}
 use Rattle.day.proofs.Cases.{give}
-use Rattle.claim.proofs.Claim.{judged-accepted}
-use Rattle.claim.proofs.Rows.{rows-cut}
+use Rattle.claim.proofs.Claim.{judged-slots, judged-cut}
 use Rattle.ledger.proofs.Same.{plan-counted}
 use Rattle.ledger.proofs.ledger.Statement.{statement}
 use Rattle.ledger.proofs.ledger.Tie as tie
@@ -25,30 +23,22 @@ wide-requires : tie.Need-wide-requires
 wide-requires c κs = search needs
 
 array-share-prefix-rows : tie.Need-array-share-prefix-rows
-array-share-prefix-rows c =
-    omega (
-      arith,
-      c .wide .ensures,
-      judged-accepted (c .before .before .before .before .before .before .before .before .before .args .day) (windows (c .before .before .before .before .before .before .before .before .before .args .releases .now) (c .before .before .before .before .before .before .before .before .before .args .deadlines .now)) (c .before .before .before .before .before .before .before .before .before .args .starts .now) _ (c .before .before .before .before .before .judge .ensures .answer) (c .before .before .if1 .left) .slots,
-      c .before .before .before .before .before .judge .ensures .accepted (c .before .before .if1 .left) .long,
-    )
+array-share-prefix-rows c = judged-cut (c .before .before .before .before .before .judge .ensures) (c .before .before .if1 .left) (c .wide .result) (c .wide .ensures .0) .room
 
 slice-aggregate-count : tie.Need-slice-aggregate-count
-slice-aggregate-count c =
-    sym (rows-cut (c .before .before .before .before .before .before .judge .ensures .accepted (c .before .before .before .if1 .left)) _ (omega (arith, c .before .wide .ensures, judged-accepted (c .before .before .before .before .before .before .before .before .before .before .args .day) (windows (c .before .before .before .before .before .before .before .before .before .before .args .releases .now) (c .before .before .before .before .before .before .before .before .before .before .args .deadlines .now)) (c .before .before .before .before .before .before .before .before .before .before .args .starts .now) _ (c .before .before .before .before .before .before .judge .ensures .answer) (c .before .before .before .if1 .left) .slots)))
+slice-aggregate-count c = sym (judged-cut (c .before .before .before .before .before .before .judge .ensures) (c .before .before .before .if1 .left) (c .before .wide .result) (c .before .wide .ensures .0) .long)
 
 count-requires : tie.Need-count-requires
 count-requires c κs =
-    give (judged-accepted (c .before .before .before .before .before .before .before .before .before .before .args .day) (windows (c .before .before .before .before .before .before .before .before .before .before .args .releases .now) (c .before .before .before .before .before .before .before .before .before .before .args .deadlines .now)) (c .before .before .before .before .before .before .before .before .before .before .args .starts .now) _ (c .before .before .before .before .before .before .judge .ensures .answer) (c .before .before .before .if1 .left) .slots)
-    (λ within.
-    omega (arith, within, c .before .wide .ensures, rows-cut (c .before .before .before .before .before .before .judge .ensures .accepted (c .before .before .before .if1 .left)) (c .before .wide .result) (omega (arith, c .before .wide .ensures, within))))
+    give (judged-cut (c .before .before .before .before .before .before .judge .ensures) (c .before .before .before .if1 .left) (c .before .wide .result) (c .before .wide .ensures .0)) (λ cut. omega (arith, cut .long, cut .small))
 
 returns-2 : tie.Need-returns-2
 returns-2 c =
     record {
       answer = c .before .before .before .before .before .before .before .judge .ensures .answer;
       accepted = λ e.
-          plan-counted (judged-accepted (c .before .before .before .before .before .before .before .before .before .before .before .args .day) (windows (c .before .before .before .before .before .before .before .before .before .before .before .args .releases .now) (c .before .before .before .before .before .before .before .before .before .before .before .args .deadlines .now)) (c .before .before .before .before .before .before .before .before .before .before .before .args .starts .now) _ (c .before .before .before .before .before .before .before .judge .ensures .answer) (c .before .before .before .before .if1 .left) .slots) (c .before .before .before .before .before .before .before .judge .ensures .accepted (c .before .before .before .before .if1 .left)) (rw (c .before .before .wide .ensures .0) at (c .count .ensures));
+          plan-counted (judged-slots (c .before .before .before .before .before .before .before .judge .ensures) e) (c .before .before .before .before .before .before .before .judge .ensures .rows .accepted e)
+          (rw (c .before .before .wide .ensures .0) at (c .count .ensures));
       refused = λ e. absurd (e (c .before .before .before .before .if1 .left));
     }
 

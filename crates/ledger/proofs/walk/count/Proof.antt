@@ -5,7 +5,7 @@ use native.Mathlib.Omega.{arith}
 use borrow.Author.Needs.{needs}
 use lib.ListN.{length}
 use Rattle.day.specs.Windows.{at}
-use Rattle.ledger.proofs.Walked.{Walked, walked-first, walked-empty, walked-job, walked-end, slept-at-most}
+use Rattle.ledger.proofs.Walked.{Walked, walked-first, walked-empty, walked-job, walked-end, walked-room}
 use Rattle.ledger.proofs.Run.{next-first}
 use Rattle.ledger.proofs.walk.count.Statement.{statement}
 use Rattle.ledger.proofs.walk.count.Tie as tie
@@ -36,36 +36,16 @@ slept-requires : tie.Need-slept-requires Inv-loop μ-loop
 slept-requires c κs = search needs
 
 add-asleep : tie.Need-add-asleep Inv-loop μ-loop
-add-asleep c =
-    omega (
-      arith,
-      c .before .before .before .before .loop .inv .sum,
-      slept-at-most (c .before .before .before .before .before .before .before .args .power) (c .before .before .before .before .loop .empty) (c .slept .ensures),
-    )
+add-asleep c = omega (arith, walked-room (c .before .before .before .before .loop .inv) (c .slept .ensures))
 
 sub-awake : tie.Need-sub-awake Inv-loop μ-loop
-sub-awake c =
-    omega (
-      arith,
-      c .before .before .before .before .loop .inv .sum,
-      slept-at-most (c .before .before .before .before .before .before .before .args .power) (c .before .before .before .before .loop .empty) (c .slept .ensures),
-    )
+sub-awake c = omega (arith, walked-room (c .before .before .before .before .loop .inv) (c .slept .ensures))
 
 add-awake : tie.Need-add-awake Inv-loop μ-loop
-add-awake c =
-    omega (
-      arith,
-      c .before .before .before .before .loop .inv .sum,
-      slept-at-most (c .before .before .before .before .before .before .before .args .power) (c .before .before .before .before .loop .empty) (c .slept .ensures),
-    )
+add-awake c = omega (arith, walked-room (c .before .before .before .before .loop .inv) (c .slept .ensures))
 
 add-job : tie.Need-add-job Inv-loop μ-loop
-add-job c =
-    omega (
-      arith,
-      c .before .before .before .before .loop .inv .sum,
-      slept-at-most (c .before .before .before .before .before .before .before .args .power) (c .before .before .before .before .loop .empty) (c .slept .ensures),
-    )
+add-job c = omega (arith, walked-room (c .before .before .before .before .loop .inv) (c .slept .ensures))
 
 add-slot : tie.Need-add-slot Inv-loop μ-loop
 add-slot c = search needs
