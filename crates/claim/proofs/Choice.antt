@@ -11,7 +11,7 @@ use Rattle.day.specs.Refusal.{_then_, stops, goes-on}
 use Rattle.day.proofs.Refusal.{IsCheck, refuses-is-check}
 use Rattle.day.proofs.Check.{list-is-check}
 use Rattle.day.proofs.Cases.{give, on-eq}
-use Rattle.claim.specs.Claim.{Fit, StartsCheck, Costs}
+use Rattle.claim.specs.Claim.{Fit, PricedStarts}
 use Rattle.claim.specs.Choice.{
   plan-cost,
   own-plan,
@@ -33,23 +33,25 @@ pub neither-is-check : (w : Windows) (own server : List ℕ) → IsCheck (Neithe
 neither-is-check w own server = refuses-is-check (λ e. omega arith)
 
 -- who wins is fit, so not both are unfit
-winner-fit : {day : Day} {w : Windows} {own server : List ℕ} {k : ℕ} → Wins day w own server k → (b : Answer) → NeitherCheck w own server b → ⊥
+winner-fit : {day : Day} {w : Windows} {own server : List ℕ} {k : ℕ} → Wins day w own server k →
+    (b : Answer) → NeitherCheck w own server b → ⊥
 winner-fit (own-wins fit _) b r = r .fault .0 fit
 winner-fit (server-wins fit _) b r = r .fault .1 fit
 
 module _ (day : Day) (w : Windows) (own server : List ℕ) where
-  named : {k : ℕ} {a : Answer} → Wins day w own server k → a ≡ says done k 0 → (NeitherCheck w own server then NamesWinner day w own server) a
+  named : {k : ℕ} {a : Answer} → Wins day w own server k → a ≡ says done k 0 →
+      (NeitherCheck w own server then NamesWinner day w own server) a
   named win e = goes-on (winner-fit win) (record { winner = _; wins = win; says = e })
 
   -- what holds of a plan's price, where it has one, holds of the plan's cost where it is fit
-  priced-holds : (starts : List ℕ) (q : Answer) → (StartsCheck w starts then Costs day w starts) q → (P : ℕ → Type 0)
+  priced-holds : (starts : List ℕ) (q : Answer) → PricedStarts day w starts q → (P : ℕ → Type 0)
       → (q .code ≡ done → P (q .first)) → Fit w starts → P (plan-cost day w starts)
   priced-holds starts q priced P holds fit =
       on-eq (q .code) done (λ z. rw (priced-fit day w starts q priced z .1) at (holds z))
       (λ z. absurd (priced-unfit day w starts q priced z fit))
 
   -- comparing the two prices finds the winner
-  pub compared-named : (p q a : Answer) → (StartsCheck w own then Costs day w own) p → (StartsCheck w server then Costs day w server) q
+  pub compared-named : (p q a : Answer) → PricedStarts day w own p → PricedStarts day w server q
       → Compared p q a → (NeitherCheck w own server then NamesWinner day w own server) a
   compared-named p q a priced-own priced-server (keeps-own code least e) =
       give (priced-fit day w own p priced-own code)

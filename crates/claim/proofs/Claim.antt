@@ -16,7 +16,7 @@ use Rattle.day.specs.Check.{most-slots, GoodRows, Accepted, ListCheck}
 use Rattle.day.proofs.Cases.{on-le, on-eq}
 use Rattle.day.proofs.Refusal.{IsCheck, refuses-is-check, refuses-row-is-check, refuses-pair-is-check, then-is-check, then-passed, then-clear, passed-clear, clear-first, clear-next, no-fault, no-row-at-fault}
 use Rattle.day.proofs.Check.{list-is-check, clear-accepted}
-use Rattle.claim.specs.Claim.{Fit, Together, LengthCheck, WindowsCheck, ApartCheck, StartsCheck, ClaimCheck, Costs}
+use Rattle.claim.specs.Claim.{Fit, Together, LengthCheck, WindowsCheck, ApartCheck, StartsCheck, ClaimCheck, PricedStarts}
 use Rattle.claim.specs.declared.Claimed.{Claimed}
 use Rattle.claim.specs.Rows.{Placed, Judged}
 use Rattle.claim.proofs.Rows.{Cut, rows-cut}
@@ -32,7 +32,8 @@ pub apart-is-check : (n : ℕ) (starts : List ℕ) → IsCheck (ApartCheck n sta
 apart-is-check n starts = refuses-pair-is-check (λ e. omega arith)
 
 pub starts-is-check : (w : Windows) (starts : List ℕ) → IsCheck (StartsCheck w starts)
-starts-is-check w starts = then-is-check (length-is-check w starts) (then-is-check (windows-is-check w starts) (apart-is-check (w .count) starts))
+starts-is-check w starts =
+    then-is-check (length-is-check w starts) (then-is-check (windows-is-check w starts) (apart-is-check (w .count) starts))
 
 pub claim-is-check : (day : Day) (w : Windows) (starts : List ℕ) → IsCheck (ClaimCheck day w starts)
 claim-is-check day w starts = then-is-check list-is-check (starts-is-check w starts)
@@ -56,12 +57,14 @@ clear-fit w starts clear =
         ⊎-elim (λ m. m)
         (λ m.
         absurd
-        (no-row-at-fault (λ j. ⊎-elim (λ k. inr (λ n. n k)) (λ k. inl k) (may-start-known w j (at starts j))) (clear-first (clear-next clear)) i
+        (no-row-at-fault (λ j. ⊎-elim (λ k. inr (λ n. n k)) (λ k. inl k) (may-start-known w j (at starts j)))
+        (clear-first (clear-next clear)) i
         h m))
         (may-start-known w i (at starts i))
 
     none-together : (i j : ℕ) → i < j → j < w .count → Together starts i j → ⊥
-    none-together = no-pair-at-fault (λ i j. on-eq (at starts i) (at starts j) (λ e. inl e) (λ e. inr e)) (w .count) (clear-next (clear-next clear))
+    none-together = no-pair-at-fault (λ i j. on-eq (at starts i) (at starts j) (λ e. inl e) (λ e. inr e)) (w .count)
+        (clear-next (clear-next clear))
 
     apart : (i j : ℕ) → i < w .count → j < w .count → at starts i ≡ at starts j → i ≡ j
     apart i j h l e =
@@ -98,12 +101,12 @@ pub passed-accepted : {day : Day} {w : Windows} (a : Answer) → (ListCheck day 
 passed-accepted a p e = clear-accepted (passed-clear list-is-check a p e)
 
 -- pricing answers 0 exactly for a fit plan, and then with its cost
-pub priced-fit : (day : Day) (w : Windows) (starts : List ℕ) (a : Answer) → (StartsCheck w starts then Costs day w starts) a → a .code ≡ done
+pub priced-fit : (day : Day) (w : Windows) (starts : List ℕ) (a : Answer) → PricedStarts day w starts a → a .code ≡ done
     → Fit w starts × (a .first ≡ cost day (w .count) (at starts))
 priced-fit day w starts a (stops p) e = absurd (starts-is-check w starts .not-done a p e)
 priced-fit day w starts a (goes-on clear p) e = (clear-fit w starts clear, ap (λ (x : Answer). x .first) p)
 
-pub priced-unfit : (day : Day) (w : Windows) (starts : List ℕ) (a : Answer) → (StartsCheck w starts then Costs day w starts) a
+pub priced-unfit : (day : Day) (w : Windows) (starts : List ℕ) (a : Answer) → PricedStarts day w starts a
     → (a .code ≡ done → ⊥) → Fit w starts → ⊥
 priced-unfit day w starts a (stops p) e fit = fit-clear w starts fit a p
 priced-unfit day w starts a (goes-on clear p) e fit = e (ap (λ (x : Answer). x .code) p)
@@ -118,7 +121,8 @@ pub placed-next : {w : Windows} {starts : List ℕ} {claimed : Claimed} {Next : 
     → claimed .answer .code ≡ done → (a : Answer) → Next a → (StartsCheck w starts then Next) a
 placed-next {w} {starts} {claimed} p e a = then-passed (starts-is-check w starts) (claimed .answer) a (p .answer) e
 
-module _ {day : Day} {w : Windows} {starts : List ℕ} {claimed : Claimed} (p : Judged day w starts claimed) (e : claimed .answer .code ≡ done) where
+module _ {day : Day} {w : Windows} {starts : List ℕ} {claimed : Claimed} (p : Judged day w starts claimed)
+    (e : claimed .answer .code ≡ done) where
   pub judged-next : {Next : Answer → Type 0} (a : Answer) → Next a → (ClaimCheck day w starts then Next) a
   judged-next a = then-passed (claim-is-check day w starts) (claimed .answer) a (p .answer) e
 

@@ -23,6 +23,7 @@ use Rattle.claim.specs.Choice.{
   server-wins,
   Chosen,
   StartOf,
+  SamePart,
   PartFor,
   refused,
   of-own,
@@ -80,11 +81,6 @@ pub handed-agrees : (day : Day) (w : Windows) (own server part : RefT (List ℕ)
     → Chosen day w (now own) (now server) a → PartFor (w .count) own server part a
 handed-agrees day w own server part a h chosen =
     rw (chosen-unique day w (now own) (now server) a (h .answer) chosen (h .chosen)) (h .handed)
-
--- two parts that begin at the same place and hold the same starts
-pub record SamePart (part other : RefT (List ℕ)) : Type 0 where
-  pub begins : part .ptr ≡ other .ptr
-  pub holds : now part ≡ now other
 
 start-unique : {plan part other : RefT (List ℕ)} {n : ℕ} → StartOf plan n part → StartOf plan n other → SamePart part other
 start-unique p q = record { begins = p .begins ∙ sym (q .begins); holds = p .holds ∙ sym (q .holds) }

@@ -65,3 +65,8 @@ pub record HandedBack (day : Day) (w : Windows) (own server part : RefT (List �
   pub answer : Answer
   pub chosen : Chosen day w (now own) (now server) answer
   pub handed : PartFor (w .count) own server part answer
+
+-- two parts that begin at the same place and hold the same starts
+pub record SamePart (part other : RefT (List ℕ)) : Type 0 where
+  pub begins : part .ptr ≡ other .ptr
+  pub holds : now part ≡ now other

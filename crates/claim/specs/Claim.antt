@@ -47,6 +47,10 @@ ClaimCheck day w starts = ListCheck day w then StartsCheck w starts
 abbrev pub Costs : Day → Windows → List ℕ → Answer → Type 0
 Costs day w starts a = a ≡ says done (cost day (w .count) (at starts)) 0
 
+-- what pricing the starts answers for a list that has passed codes 1 to 4
+abbrev pub PricedStarts : Day → Windows → List ℕ → Answer → Type 0
+PricedStarts day w starts = StartsCheck w starts then Costs day w starts
+
 -- what pricing a claimed plan answers
 abbrev pub Priced : Day → Windows → List ℕ → Answer → Type 0
 Priced day w starts = ClaimCheck day w starts then Costs day w starts

@@ -6,9 +6,8 @@ pub mod slots;
 ghost use mathlib.Core.Path.{_≡_};
 ghost use Rattle.day.specs.Windows.{windows};
 ghost use Rattle.day.specs.Answer.{says, done};
-ghost use Rattle.day.specs.Refusal.{_then_};
 ghost use Rattle.day.specs.Check.{most-jobs, most-slots, GoodRows, Accepted};
-ghost use Rattle.claim.specs.Claim.{StartsCheck, Costs, Priced};
+ghost use Rattle.claim.specs.Claim.{PricedStarts, Priced};
 ghost use Rattle.claim.specs.Rows.{Placed, Judged};
 ghost use Rattle.claim.specs.Choice.{Compared, Chosen, HandedBack};
 use day::Answer;
@@ -52,10 +51,21 @@ pub fn judge(day: Day, releases: &[u16], deadlines: &[u16], starts: &[u16]) -> C
     place(releases, deadlines, starts)
 }
 
+// The answer 0 with its first number.
+fn done(number: u16) -> Answer
+    ensures { λ a. ⌜ a ≡ says done number 0 ⌝ }
+{
+    Answer {
+        code: code::DONE,
+        first: number,
+        second: 0,
+    }
+}
+
 // Prices the starts for a list that has passed codes 1 to 4.
 fn price_starts(day: Day, releases: &[u16], deadlines: &[u16], starts: &[u16]) -> Answer
     requires { ⌜ Accepted day (windows (now releases) (now deadlines)) ⌝ }
-    ensures { λ a. ⌜ (StartsCheck (windows (now (releases .entry)) (now (deadlines .entry))) (now (starts .entry)) then Costs day (windows (now (releases .entry)) (now (deadlines .entry))) (now (starts .entry))) a ⌝ }
+    ensures { λ a. ⌜ PricedStarts day (windows (now (releases .entry)) (now (deadlines .entry))) (now (starts .entry)) a ⌝ }
 {
     let claimed = place(releases, deadlines, starts);
     let answer = claimed.answer;
@@ -64,12 +74,7 @@ fn price_starts(day: Day, releases: &[u16], deadlines: &[u16], starts: &[u16]) -
     }
     let rows = claimed.rows;
     let slots = day::wide(day.slots);
-    let cost = slots::cost(day.power, &rows[..slots]);
-    Answer {
-        code: code::DONE,
-        first: cost,
-        second: 0,
-    }
+    done(slots::cost(day.power, &rows[..slots]))
 }
 
 // Prices a claimed plan.
@@ -83,16 +88,6 @@ pub fn price(day: Day, releases: &[u16], deadlines: &[u16], starts: &[u16]) -> A
     price_starts(day, releases, deadlines, starts)
 }
 
-fn winner(plan: u16) -> Answer
-    ensures { λ a. ⌜ a ≡ says done plan 0 ⌝ }
-{
-    Answer {
-        code: code::DONE,
-        first: plan,
-        second: 0,
-    }
-}
-
 // Of the answers of pricing two plans, which is of the cheaper proper plan; equal cost goes to the notebook's own.
 fn cheaper(own: Answer, server: Answer) -> Answer
     ensures { λ a. ⌜ Compared own server a ⌝ }
@@ -101,15 +96,15 @@ fn cheaper(own: Answer, server: Answer) -> Answer
         if server.code != code::DONE {
             return Answer::of(code::NEITHER_PROPER);
         }
-        return winner(SERVER);
+        return done(SERVER);
     }
     if server.code != code::DONE {
-        return winner(OWN);
+        return done(OWN);
     }
     if server.first < own.first {
-        return winner(SERVER);
+        return done(SERVER);
     }
-    winner(OWN)
+    done(OWN)
 }
 
 // Which of two claimed plans for one list wins: as first number 1, the notebook's own, or 2, the server's.

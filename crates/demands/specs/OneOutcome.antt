@@ -14,10 +14,9 @@ use Rattle.day.specs.Check.{SlotsCheck, PowerCheck, JobsCheck, ListCheck}
 use Rattle.day.specs.Numbering.{Numbering}
 use Rattle.planner.specs.Table.{need}
 use Rattle.planner.specs.Promise.{PlanCheck, Planned}
-use Rattle.claim.specs.Claim.{ClaimCheck, Priced}
+use Rattle.claim.specs.Claim.{Priced}
 use Rattle.claim.specs.Rows.{NextJob, Judged}
-use Rattle.claim.specs.Choice.{Chosen, HandedBack}
-use Rattle.claim.proofs.Promise.{SamePart}
+use Rattle.claim.specs.Choice.{Chosen, HandedBack, SamePart}
 use Rattle.ledger.specs.Promise.{Ledgered, SlotShown}
 use Rattle.moving.specs.Moving.{MovedList}
 use Rattle.dayfile.specs.declared.Reading.{Reading}
@@ -40,7 +39,7 @@ pub record OneOutcome : Type 0 where
       (λ o.
       Planned (PlanCheck day w starts table) (need (day .slots) (w .count)) day w starts table (o .0) (o .1) (o .2))
   -- claim
-  pub judge : (day : Day) (w : Windows) (starts : List ℕ) → AtMostOne (Judged (ClaimCheck day w starts) w starts)
+  pub judge : (day : Day) (w : Windows) (starts : List ℕ) → AtMostOne (Judged day w starts)
   pub price : (day : Day) (w : Windows) (starts : List ℕ) → AtMostOne (Priced day w starts)
   pub which : (day : Day) (w : Windows) (own server : List ℕ) → AtMostOne (Chosen day w own server)
   pub choose : (day : Day) (w : Windows) (own server part other : RefT (List ℕ)) → HandedBack day w own server part

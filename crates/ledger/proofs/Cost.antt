@@ -56,7 +56,8 @@ first-busy slots row =
 
 module _ {power : Power} {slots : ℕ} {row : ℕ → ℕ} where
   -- from any slot of the walk on, the awake slots are those of the gaps still to come
-  awake-counted : {first job awake asleep empty : ℕ} (m slot : ℕ) → slot + m ≡ slots → Walked power slots row first job awake asleep empty slot
+  awake-counted : {first job awake asleep empty : ℕ}
+      (m slot : ℕ) → slot + m ≡ slots → Walked power slots row first job awake asleep empty slot
       → Count (InColumn power slots row 2) slots (awake + total (awake-slots power) (gaps-since (holds row) empty slot m))
   unfolding awake-slots
   awake-counted {awake = awake} {empty = empty} zero slot e p =
@@ -77,7 +78,8 @@ module _ {power : Power} {slots : ℕ} {row : ℕ → ℕ} where
       (omega (arith, total-awake-ended power empty (gaps-since (holds row) 0 (suc slot) m)))
       in
       rw sum
-      (awake-counted m (suc slot) (omega arith) (rw (add-one slot) at (walked-job {awake' = awake + awake-slots power empty} {empty' = 0} p (omega arith) busy refl refl refl refl refl))))
+      (awake-counted m (suc slot) (omega arith) (rw (add-one slot) at (walked-job {awake' = awake + awake-slots power empty} {empty' = 0} p
+      (omega arith) busy refl refl refl refl refl))))
 
   -- the awake slots are those of the gaps
   awake-of-gaps : {c : Counts} → Counted power slots row c → c .awake ≡ total (awake-slots power) (gaps (holds row) 0 slots)

@@ -44,7 +44,8 @@ module _ {power : Power} {slots : ℕ} {row : ℕ → ℕ} where
         past = omega arith;
         sum = omega arith;
         settled =
-            counted-block {m = 0} {c = five 0 0 0 0 0} {d = five first 0 0 0 0} 0 first (first - 0) (omega arith) (omega (arith, begun .within))
+            counted-block {m = 0} {c = five 0 0 0 0 0} {d = five first 0 0 0 0} 0 first (first - 0) (omega arith)
+            (omega (arith, begun .within))
             (λ u h l. record { fill = Before; fills = before-first (λ v k. clear v (omega arith)); here = refl })
             counts-none (omega arith) (omega arith) (omega arith) (omega arith) (omega arith);
         waiting = λ u h l. absurd (omega arith);
@@ -85,7 +86,8 @@ module _ {power : Power} {slots : ℕ} {row : ℕ → ℕ} where
       ))
 
   -- a job ends the gap of the slots that wait
-  gap-around : {first job awake asleep empty slot : ℕ} → Walked power slots row first job awake asleep empty slot → slot < slots → Busy row slot
+  gap-around : {first job awake asleep empty slot : ℕ} → Walked power slots row first job awake asleep empty slot → slot < slots → Busy row
+      slot
       → (u : ℕ) → slot - empty ≤ u → u < slot → InGap slots row u empty
   gap-around {first} {job} {awake} {asleep} {empty} {slot} p within busy u h l =
       give (p .last (omega (arith, p .sum)))
@@ -121,7 +123,8 @@ module _ {power : Power} {slots : ℕ} {row : ℕ → ℕ} where
 
   pub walked-job : {first job awake asleep empty slot dark job' awake' asleep' empty' : ℕ}
       → Walked power slots row first job awake asleep empty slot
-      → slot < slots → Busy row slot → dark ≡ cond (sleeping power empty) empty 0 → asleep' ≡ asleep + dark → awake' ≡ awake + (empty - dark)
+      → slot < slots → Busy row slot → dark ≡ cond (sleeping power empty) empty 0 → asleep' ≡ asleep + dark → awake' ≡ awake +
+      (empty - dark)
       → job' ≡ job + 1 → empty' ≡ 0 → Walked power slots row first job' awake' asleep' empty' (slot + 1)
   unfolding gain
   walked-job {first} {job} {awake} {asleep} {empty} {slot} {dark} p within busy d a w j e =
@@ -132,7 +135,8 @@ module _ {power : Power} {slots : ℕ} {row : ℕ → ℕ} where
         past = omega (arith, p .past);
         sum = omega (arith, p .sum, slept-at-most power empty d);
         settled =
-            counted-block {m = slot} {c = five first job (awake + (empty - dark)) (asleep + dark) 0} 1 1 (slot + 1 - 0) (omega arith) (omega arith)
+            counted-block {m = slot} {c = five first job (awake + (empty - dark)) (asleep + dark) 0} 1 1 (slot + 1 - 0) (omega arith)
+            (omega arith)
             (λ u h l.
             let here : u ≡ slot = omega arith in
             record { fill = Job (row u); fills = by-job (rw here busy); here = refl })
@@ -155,7 +159,8 @@ module _ {power : Power} {slots : ℕ} {row : ℕ → ℕ} where
       record {
         fill = After;
         fills =
-            after-last (slot - empty - 1) (omega (arith, behind .0)) (behind .1) (λ v a b. p .waiting v (omega (arith, behind .0)) (omega arith));
+            after-last (slot - empty - 1) (omega (arith, behind .0)) (behind .1)
+            (λ v a b. p .waiting v (omega (arith, behind .0)) (omega arith));
         here = refl;
       }))
       (p .settled) (omega arith) (omega arith) (omega arith) (omega arith) (omega arith)

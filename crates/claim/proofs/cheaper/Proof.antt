@@ -10,29 +10,29 @@ of-requires c κs = search needs
 returns : tie.Need-returns
 returns c = neither (c .before .before .before .if1 .taken) (c .before .if2 .taken) (c .of .ensures)
 
-winner-requires : tie.Need-winner-requires
-winner-requires c κs = search needs
+done-requires : tie.Need-done-requires
+done-requires c κs = search needs
 
 returns-2 : tie.Need-returns-2
-returns-2 c = takes-server (c .before .if2 .left) (λ e. absurd (c .before .before .before .if1 .taken e)) (c .winner .ensures)
+returns-2 c = takes-server (c .before .if2 .left) (λ e. absurd (c .before .before .before .if1 .taken e)) (c .done .ensures)
 
-winner-requires-2 : tie.Need-winner-requires-2
-winner-requires-2 c κs = search needs
+done-requires-2 : tie.Need-done-requires-2
+done-requires-2 c κs = search needs
 
 returns-3 : tie.Need-returns-3
-returns-3 c = keeps-own (c .before .before .before .if1 .left) (λ e. absurd (c .before .if3 .taken e)) (c .winner2 .ensures)
+returns-3 c = keeps-own (c .before .before .before .if1 .left) (λ e. absurd (c .before .if3 .taken e)) (c .done2 .ensures)
 
-winner-requires-3 : tie.Need-winner-requires-3
-winner-requires-3 c κs = search needs
+done-requires-3 : tie.Need-done-requires-3
+done-requires-3 c κs = search needs
 
 returns-4 : tie.Need-returns-4
-returns-4 c = takes-server (c .before .before .before .before .if3 .left) (λ e. c .before .if4 .taken) (c .winner3 .ensures)
+returns-4 c = takes-server (c .before .before .before .before .if3 .left) (λ e. c .before .if4 .taken) (c .done3 .ensures)
 
-winner-requires-4 : tie.Need-winner-requires-4
-winner-requires-4 c κs = search needs
+done-requires-4 : tie.Need-done-requires-4
+done-requires-4 c κs = search needs
 
 returns-5 : tie.Need-returns-5
-returns-5 c = keeps-own (c .before .before .before .before .before .before .if1 .left) (λ e. c .before .if4 .left) (c .winner4 .ensures)
+returns-5 c = keeps-own (c .before .before .before .before .before .before .if1 .left) (λ e. c .before .if4 .left) (c .done4 .ensures)
 
 pub cheaper-spec : {M : Type 1} → statement M
 cheaper-spec =
@@ -40,11 +40,11 @@ cheaper-spec =
     (tie.spec
     of-requires
     returns
-    winner-requires
+    done-requires
     returns-2
-    winner-requires-2
+    done-requires-2
     returns-3
-    winner-requires-3
+    done-requires-3
     returns-4
-    winner-requires-4
+    done-requires-4
     returns-5)

@@ -23,25 +23,31 @@ returns c =
     }
 
 slice-aggregate-result-2 : tie.Need-slice-aggregate-result-2
-slice-aggregate-result-2 c = give (named-own _ (chosen-named _ (c .before .before .before .before .before .which .ensures) (c .before .before .before .if1 .left)) (c .before .if2 .taken)) (λ won. sym (length-take-le _ _ (won .0 .long)))
+slice-aggregate-result-2 c =
+    give (named-own _ (chosen-named _ (c .before .before .before .before .before .which .ensures) (c .before .before .before .if1 .left))
+    (c .before .if2 .taken)) (λ won. sym (length-take-le _ _ (won .0 .long)))
 
 returns-2 : tie.Need-returns-2
 returns-2 c =
     record {
       answer = _;
       chosen = c .before .before .before .before .before .which .ensures;
-      handed = of-own (named-own _ (chosen-named _ (c .before .before .before .before .before .which .ensures) (c .before .before .before .if1 .left)) (c .before .if2 .taken) .1) (record { begins = refl; holds = refl });
+      handed = of-own (named-own _ (chosen-named _ (c .before .before .before .before .before .which .ensures)
+          (c .before .before .before .if1 .left)) (c .before .if2 .taken) .1) (record { begins = refl; holds = refl });
     }
 
 slice-aggregate-result-3 : tie.Need-slice-aggregate-result-3
-slice-aggregate-result-3 c = give (named-server _ (chosen-named _ (c .before .before .before .before .before .which .ensures) (c .before .before .before .if1 .left)) (c .before .if2 .left)) (λ won. sym (length-take-le _ _ (won .0 .long)))
+slice-aggregate-result-3 c =
+    give (named-server _ (chosen-named _ (c .before .before .before .before .before .which .ensures)
+    (c .before .before .before .if1 .left)) (c .before .if2 .left)) (λ won. sym (length-take-le _ _ (won .0 .long)))
 
 returns-3 : tie.Need-returns-3
 returns-3 c =
     record {
       answer = _;
       chosen = c .before .before .before .before .before .which .ensures;
-      handed = of-server (named-server _ (chosen-named _ (c .before .before .before .before .before .which .ensures) (c .before .before .before .if1 .left)) (c .before .if2 .left) .1) (record { begins = refl; holds = refl });
+      handed = of-server (named-server _ (chosen-named _ (c .before .before .before .before .before .which .ensures)
+          (c .before .before .before .if1 .left)) (c .before .if2 .left) .1) (record { begins = refl; holds = refl });
     }
 
 pub choose-spec : {M : Type 1} → statement M

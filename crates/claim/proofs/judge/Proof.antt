@@ -27,7 +27,8 @@ returns-2 : tie.Need-returns-2
 returns-2 c =
     record {
       answer = then-group _
-          (then-passed list-is-check _ _ (c .before .before .before .check-list .ensures) (c .before .if1 .left) (c .place .ensures .answer));
+          (then-passed list-is-check _ _ (c .before .before .before .check-list .ensures) (c .before .if1 .left)
+          (c .place .ensures .answer));
       rows = c .place .ensures .rows;
     }
 

@@ -16,7 +16,9 @@ price-starts-requires : tie.Need-price-starts-requires
 price-starts-requires c κs = passed-accepted _ (c .before .before .check-list .ensures) (c .if1 .left)
 
 returns-2 : tie.Need-returns-2
-returns-2 c = then-group _ (then-passed list-is-check _ _ (c .before .before .before .check-list .ensures) (c .before .if1 .left) (c .price-starts .ensures))
+returns-2 c =
+    then-group _ (then-passed list-is-check _ _ (c .before .before .before .check-list .ensures) (c .before .if1 .left)
+    (c .price-starts .ensures))
 
 pub price-spec : {M : Type 1} → statement M
 price-spec = tie.close (tie.spec check-list-requires returns price-starts-requires returns-2)

@@ -28,22 +28,42 @@ array-share-prefix-rows c =
 
 slice-aggregate-cost : tie.Need-slice-aggregate-cost
 slice-aggregate-cost c =
-    sym (rows-cut (c .before .before .before .before .before .before .place .ensures .rows .accepted (c .before .before .before .if1 .left)) (c .before .wide .result)
-    (omega (arith, c .before .wide .ensures, c .before .before .before .before .before .before .before .before .before .before .pre .slots)) .long)
+    sym (rows-cut (c .before .before .before .before .before .before .place .ensures .rows .accepted
+    (c .before .before .before .if1 .left)) (c .before .wide .result)
+    (omega (
+      arith,
+      c .before .wide .ensures,
+      c .before .before .before .before .before .before .before .before .before .before .pre
+          .slots,
+    )) .long)
 
 cost-requires : tie.Need-cost-requires
 cost-requires c κs =
-    give (rows-cut (c .before .before .before .before .before .before .place .ensures .rows .accepted (c .before .before .before .if1 .left)) (c .before .wide .result)
-    (omega (arith, c .before .wide .ensures, c .before .before .before .before .before .before .before .before .before .before .pre .slots)))
+    give (rows-cut (c .before .before .before .before .before .before .place .ensures .rows .accepted
+    (c .before .before .before .if1 .left)) (c .before .wide .result)
+    (omega (
+      arith,
+      c .before .wide .ensures,
+      c .before .before .before .before .before .before .before .before .before .before .pre
+          .slots,
+    )))
     (λ cut. omega (arith, cut .long, cut .small))
+
+done-requires : tie.Need-done-requires
+done-requires c κs = search needs
 
 returns-2 : tie.Need-returns-2
 returns-2 c =
-    placed-next (c .before .before .before .before .before .before .before .place .ensures) (c .before .before .before .before .if1 .left) _
-    (ap (λ (x : ℕ). says done x 0)
-    (c .cost .ensures
-    ∙ whole-cost-day (c .before .before .before .before .before .before .before .before .before .before .before .args .day) (c .before .before .wide .ensures .0) (c .before .before .before .before .before .before .before .before .before .before .before .pre .slots)
-    (c .before .before .before .before .before .before .before .place .ensures .rows .accepted (c .before .before .before .before .if1 .left))))
+    placed-next (c .before .before .before .before .before .before .before .before .place .ensures)
+    (c .before .before .before .before .before .if1 .left) _
+    (c .done .ensures
+    ∙ ap (λ (x : ℕ). says done x 0)
+    (c .before .cost .ensures
+    ∙ whole-cost-day (c .before .before .before .before .before .before .before .before .before .before .before .before .args .day)
+    (c .before .before .before .wide .ensures .0)
+    (c .before .before .before .before .before .before .before .before .before .before .before .before .pre .slots)
+    (c .before .before .before .before .before .before .before .before .place .ensures .rows .accepted
+    (c .before .before .before .before .before .if1 .left))))
 
 pub price-starts-spec : {M : Type 1} → statement M
 price-starts-spec =
@@ -55,4 +75,5 @@ price-starts-spec =
     array-share-prefix-rows
     slice-aggregate-cost
     cost-requires
+    done-requires
     returns-2)

@@ -26,8 +26,12 @@ cheaper-requires c κs = search needs
 returns-2 : tie.Need-returns-2
 returns-2 c =
     then-passed list-is-check _ _ (c .before .before .before .before .before .check-list .ensures) (c .before .before .before .if1 .left)
-    (compared-named (c .before .before .before .before .before .before .before .before .before .before .args .day) (windows (c .before .before .before .before .before .before .before .before .before .before .args .releases .now) (c .before .before .before .before .before .before .before .before .before .before .args .deadlines .now)) (c .before .before .before .before .before .before .before .before .before .before .args .own .now)
-    (c .before .before .before .before .before .before .before .before .before .before .args .server .now) _ _ _ (c .before .before .price-starts .ensures) (c .before .price-starts2 .ensures) (c .cheaper .ensures))
+    (compared-named (c .before .before .before .before .before .before .before .before .before .before .args .day)
+    (windows (c .before .before .before .before .before .before .before .before .before .before .args .releases .now)
+    (c .before .before .before .before .before .before .before .before .before .before .args .deadlines .now))
+    (c .before .before .before .before .before .before .before .before .before .before .args .own .now)
+    (c .before .before .before .before .before .before .before .before .before .before .args .server .now) _ _ _
+    (c .before .before .price-starts .ensures) (c .before .price-starts2 .ensures) (c .cheaper .ensures))
 
 pub which-spec : {M : Type 1} → statement M
 which-spec =

@@ -23,21 +23,27 @@ wide-requires : tie.Need-wide-requires
 wide-requires c κs = search needs
 
 array-share-prefix-rows : tie.Need-array-share-prefix-rows
-array-share-prefix-rows c = judged-cut (c .before .before .before .before .before .judge .ensures) (c .before .before .if1 .left) (c .wide .result) (c .wide .ensures .0) .room
+array-share-prefix-rows c =
+    judged-cut (c .before .before .before .before .before .judge .ensures) (c .before .before .if1 .left) (c .wide .result)
+    (c .wide .ensures .0) .room
 
 slice-aggregate-count : tie.Need-slice-aggregate-count
-slice-aggregate-count c = sym (judged-cut (c .before .before .before .before .before .before .judge .ensures) (c .before .before .before .if1 .left) (c .before .wide .result) (c .before .wide .ensures .0) .long)
+slice-aggregate-count c =
+    sym (judged-cut (c .before .before .before .before .before .before .judge .ensures) (c .before .before .before .if1 .left)
+    (c .before .wide .result) (c .before .wide .ensures .0) .long)
 
 count-requires : tie.Need-count-requires
 count-requires c κs =
-    give (judged-cut (c .before .before .before .before .before .before .judge .ensures) (c .before .before .before .if1 .left) (c .before .wide .result) (c .before .wide .ensures .0)) (λ cut. omega (arith, cut .long, cut .small))
+    give (judged-cut (c .before .before .before .before .before .before .judge .ensures) (c .before .before .before .if1 .left)
+    (c .before .wide .result) (c .before .wide .ensures .0)) (λ cut. omega (arith, cut .long, cut .small))
 
 returns-2 : tie.Need-returns-2
 returns-2 c =
     record {
       answer = c .before .before .before .before .before .before .before .judge .ensures .answer;
       accepted = λ e.
-          plan-counted (judged-slots (c .before .before .before .before .before .before .before .judge .ensures) e) (c .before .before .before .before .before .before .before .judge .ensures .rows .accepted e)
+          plan-counted (judged-slots (c .before .before .before .before .before .before .before .judge .ensures) e)
+          (c .before .before .before .before .before .before .before .judge .ensures .rows .accepted e)
           (rw (c .before .before .wide .ensures .0) at (c .count .ensures));
       refused = λ e. absurd (e (c .before .before .before .before .if1 .left));
     }

@@ -37,7 +37,8 @@ returns-2 c =
     rw (c .no-slot2 .ensures, c .before .of .ensures)
     record {
       answer =
-          judged-next (c .before .before .before .before .before .before .before .judge .ensures) (c .before .before .before .before .if1 .left) _ (stops (record { fault = c .before .before .if2 .taken; says = refl }));
+          judged-next (c .before .before .before .before .before .before .before .judge .ensures)
+          (c .before .before .before .before .if1 .left) _ (stops (record { fault = c .before .before .if2 .taken; says = refl }));
       slot = λ e. absurd (omega arith);
       fill = λ e. absurd (omega arith);
       refused = λ e. refl;
@@ -47,19 +48,27 @@ wide-requires : tie.Need-wide-requires
 wide-requires c κs = search needs
 
 array-share-prefix-rows : tie.Need-array-share-prefix-rows
-array-share-prefix-rows c = judged-cut (c .before .before .before .before .before .before .before .judge .ensures) (c .before .before .before .before .if1 .left) (c .wide .result) (c .wide .ensures .0) .room
+array-share-prefix-rows c =
+    judged-cut (c .before .before .before .before .before .before .before .judge .ensures) (c .before .before .before .before .if1 .left)
+    (c .wide .result) (c .wide .ensures .0) .room
 
 slice-aggregate-fill-at : tie.Need-slice-aggregate-fill-at
-slice-aggregate-fill-at c = sym (judged-cut (c .before .before .before .before .before .before .before .before .judge .ensures) (c .before .before .before .before .before .if1 .left) (c .before .wide .result) (c .before .wide .ensures .0) .long)
+slice-aggregate-fill-at c =
+    sym (judged-cut (c .before .before .before .before .before .before .before .before .judge .ensures)
+    (c .before .before .before .before .before .if1 .left) (c .before .wide .result) (c .before .wide .ensures .0) .long)
 
 wide-requires-2 : tie.Need-wide-requires-2
 wide-requires-2 c κs = search needs
 
 fill-at-requires : tie.Need-fill-at-requires
 fill-at-requires c κs =
-    give (judged-cut (c .before .before .before .before .before .before .before .before .before .judge .ensures) (c .before .before .before .before .before .before .if1 .left) (c .before .before .wide .result) (c .before .before .wide .ensures .0))
-    (λ cut.
-    (omega (arith, cut .long, cut .small), omega (arith, cut .long, c .before .before .wide .ensures, c .wide2 .ensures, c .before .before .before .before .if2 .left)))
+    give (judged-cut (c .before .before .before .before .before .before .before .before .before .judge .ensures)
+    (c .before .before .before .before .before .before .if1 .left) (c .before .before .wide .result) (c .before .before .wide .ensures .0))
+    (λ cut. (
+      omega (arith, cut .long, cut .small),
+      omega
+          (arith, cut .long, c .before .before .wide .ensures, c .wide2 .ensures, c .before .before .before .before .if2 .left),
+    ))
 
 returns-3 : tie.Need-returns-3
 returns-3 c =
@@ -68,7 +77,8 @@ returns-3 c =
     record {
       answer =
           judged-next judged (c .before .before .before .before .before .before .before .if1 .left) _
-          (goes-on (λ a r. omega (arith, r .fault, c .before .before .before .before .before .if2 .left)) (judged-says judged (c .before .before .before .before .before .before .before .if1 .left)));
+          (goes-on (λ a r. omega (arith, r .fault, c .before .before .before .before .before .if2 .left))
+          (judged-says judged (c .before .before .before .before .before .before .before .if1 .left)));
       slot = λ e. refl;
       fill = λ e.
           plan-filled (judged-slots judged e) (judged .rows .accepted e) (c .before .before .before .before .before .if2 .left)

@@ -67,7 +67,18 @@ loop-less : tie.Need-loop-less Inv-loop μ-loop Inv-rows μ-rows
 loop-less c = search needs
 
 loop-again : tie.Need-loop-again Inv-loop μ-loop Inv-rows μ-rows
-loop-again c = (search needs, (search needs, (search needs, alone-next (Together (c .before .before .before .before .before .before .before .before .before .args .starts .now)) _ _ (c .before .before .before .before .loop .inv .1 .1 .1) (c .if1 .left))))
+loop-again c = (
+  search needs,
+  (
+    search needs,
+    (
+      search needs,
+      alone-next (Together
+          (c .before .before .before .before .before .before .before .before .before .args .starts .now)) _ _
+          (c .before .before .before .before .loop .inv .1 .1 .1) (c .if1 .left),
+    ),
+  ),
+)
 
 add-row : tie.Need-add-row Inv-loop μ-loop Inv-rows μ-rows
 add-row c = search needs
@@ -76,10 +87,19 @@ rows-less : tie.Need-rows-less Inv-loop μ-loop Inv-rows μ-rows
 rows-less c = search needs
 
 rows-again : tie.Need-rows-again Inv-loop μ-loop Inv-rows μ-rows
-rows-again c = (search needs, (search needs, clear-next _ _ _ (c .before .before .before .rows .inv .1 .1) (λ l h k. c .before .loop .inv .1 .1 .1 l h (omega arith))))
+rows-again c = (
+  search needs,
+  (
+    search needs,
+    clear-next _ _ _ (c .before .before .before .rows .inv .1 .1)
+        (λ l h k. c .before .loop .inv .1 .1 .1 l h (omega arith)),
+  ),
+)
 
 returns : tie.Need-returns Inv-loop μ-loop Inv-rows μ-rows
-returns c = goes-on (λ b r. c .before .rows .inv .1 .1 (r .row) (r .partner) (omega (arith, r .first)) (r .first .order) (r .first .within) (r .first .fault)) (c .before .rows .inv .1 .0)
+returns c =
+    goes-on (λ b r. c .before .rows .inv .1 .1 (r .row) (r .partner) (omega (arith, r .first)) (r .first .order) (r .first .within)
+    (r .first .fault)) (c .before .rows .inv .1 .0)
 
 returns-2 : tie.Need-returns-2 Inv-loop μ-loop Inv-rows μ-rows
 returns-2 c =

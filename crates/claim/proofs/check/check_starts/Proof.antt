@@ -28,7 +28,8 @@ returns-3 : tie.Need-returns-3
 returns-3 c =
     then-group _
     (goes-on (λ b r. omega (arith, r .fault))
-    (then-group _ (then-passed (refuses-row-is-check (λ e. omega arith)) _ _ (c .before .before .before .check-windows .ensures) (c .before .if2 .left) (c .check-apart .ensures))))
+    (then-group _ (then-passed (refuses-row-is-check (λ e. omega arith)) _ _ (c .before .before .before .check-windows .ensures)
+    (c .before .if2 .left) (c .check-apart .ensures))))
 
 pub check-starts-spec : {M : Type 1} → statement M
 check-starts-spec =

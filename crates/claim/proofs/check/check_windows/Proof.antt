@@ -15,7 +15,8 @@ use Rattle.claim.proofs.check.check_windows.Statement.{statement}
 use Rattle.claim.proofs.check.check_windows.Tie as tie
 
 abbrev Inv-loop : tie.InvT-loop
-Inv-loop releases deadlines starts row₀ row = (row ≤ length releases) × ((k : ℕ) → k < row → MayStart (windows releases deadlines) k (at starts k))
+Inv-loop releases deadlines starts row₀ row =
+    (row ≤ length releases) × ((k : ℕ) → k < row → MayStart (windows releases deadlines) k (at starts k))
 
 abbrev μ-loop : tie.MeasureT-loop
 μ-loop releases deadlines starts row₀ row = length releases - row
@@ -40,7 +41,12 @@ mul-if2 c = search needs
 
 shared-slice-read-if2 : tie.Need-shared-slice-read-if2 Inv-loop μ-loop
 shared-slice-read-if2 c =
-    omega (arith, good-rows-deadlines (c .before .before .before .before .before .before .before .before .before .args .releases .now) (c .before .before .before .before .before .before .before .before .before .args .deadlines .now) (c .before .before .before .before .before .before .before .before .before .pre .0))
+    omega (
+      arith,
+      good-rows-deadlines (c .before .before .before .before .before .before .before .before .before .args .releases .now)
+          (c .before .before .before .before .before .before .before .before .before .args .deadlines .now)
+          (c .before .before .before .before .before .before .before .before .before .pre .0),
+    )
 
 mul-if2-2 : tie.Need-mul-if2-2 Inv-loop μ-loop
 mul-if2-2 c = search needs
@@ -73,7 +79,11 @@ loop-less : tie.Need-loop-less Inv-loop μ-loop
 loop-less c = search needs
 
 loop-again : tie.Need-loop-again Inv-loop μ-loop
-loop-again c = (search needs, below-more _ _ (c .before .before .before .before .before .before .before .loop .inv .1) (omega arith, omega (arith, leb-false)))
+loop-again c = (
+  search needs,
+  below-more _ _ (c .before .before .before .before .before .before .before .loop .inv .1)
+      (omega arith, omega (arith, leb-false)),
+)
 
 of-requires : tie.Need-of-requires Inv-loop μ-loop
 of-requires c κs = search needs

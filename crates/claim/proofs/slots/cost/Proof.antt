@@ -34,7 +34,13 @@ price-requires : tie.Need-price-requires Inv-loop μ-loop
 price-requires c κs = search needs
 
 add-cost : tie.Need-add-cost Inv-loop μ-loop
-add-cost c = omega (arith, c .price .ensures, price-at-most-length (c .before .before .before .before .before .before .before .args .power) (c .before .before .before .before .loop .empty))
+add-cost c =
+    omega (
+      arith,
+      c .price .ensures,
+      price-at-most-length (c .before .before .before .before .before .before .before .args .power)
+          (c .before .before .before .before .loop .empty),
+    )
 
 add-slot : tie.Need-add-slot Inv-loop μ-loop
 add-slot c = search needs

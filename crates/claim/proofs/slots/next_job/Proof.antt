@@ -44,7 +44,11 @@ loop-less c = search needs
 loop-again : tie.Need-loop-again Inv-loop μ-loop
 loop-again c = (
   search needs,
-  ((λ h. omega arith), below-more _ _ (c .before .before .before .loop .inv .1 .1) (λ l h. not-both h (holds-job-false _ _ (c .if1 .left)))),
+  (
+    (λ h. omega arith),
+    below-more _ _ (c .before .before .before .loop .inv .1 .1)
+        (λ l h. not-both h (holds-job-false _ _ (c .if1 .left))),
+  ),
 )
 
 returns-2 : tie.Need-returns-2 Inv-loop μ-loop

@@ -37,7 +37,8 @@ mul-rows : tie.Need-mul-rows Inv-loop μ-loop
 mul-rows c = omega (arith, c .wide .ensures, c .before .before .before .before .before .pre .1 _ (c .before .before .loop-test .taken))
 
 array-write-rows : tie.Need-array-write-rows Inv-loop μ-loop
-array-write-rows c = omega (arith, c .wide .ensures, c .before .before .before .before .before .pre .1 _ (c .before .before .loop-test .taken))
+array-write-rows c =
+    omega (arith, c .wide .ensures, c .before .before .before .before .before .pre .1 _ (c .before .before .loop-test .taken))
 
 add-row : tie.Need-add-row Inv-loop μ-loop
 add-row c = search needs
@@ -48,7 +49,8 @@ loop-less c = search needs
 loop-again : tie.Need-loop-again Inv-loop μ-loop
 loop-again c = (
   search needs,
-  rows-next _ _ _ _ (c .wide .ensures .0) (c .before .before .before .before .before .pre .1 _ (c .before .before .loop-test .taken)) (c .before .before .before .loop .inv .1),
+  rows-next _ _ _ _ (c .wide .ensures .0) (c .before .before .before .before .before .pre .1 _ (c .before .before .loop-test .taken))
+      (c .before .before .before .loop .inv .1),
 )
 
 returns : tie.Need-returns Inv-loop μ-loop

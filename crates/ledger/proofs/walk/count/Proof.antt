@@ -60,7 +60,8 @@ loop-again c =
     rw (w .1, w .2, w .3)
     (walked-empty (c .before .before .before .loop .inv) (c .before .before .loop-test .taken) (w .0 .taken) (w .4)))
     (λ w.
-    walked-job (c .before .before .before .loop .inv) (c .before .before .loop-test .taken) (w .0 .left) (w .1 .ensures) (w .4) (w .3) (w .2)
+    walked-job (c .before .before .before .loop .inv) (c .before .before .loop-test .taken) (w .0 .left) (w .1 .ensures) (w .4) (w .3)
+    (w .2)
     (w .5))
     (c .if1 .came)
 

@@ -41,14 +41,18 @@ asleep-requires c κs = search needs
 
 returns-4 : tie.Need-returns-4
 returns-4 c =
-    in-asleep _ (run-gap (c .before .before .before .before .before .before .if1 .left) (c .before .before .before .before .before .run-start .ensures)
-    (c .before .before .before .before .before .before .before .before .before .pre .1) (c .before .before .before .before .if2 .left) (c .before .before .before .next-job .ensures) (c .before .before .if3 .left))
+    in-asleep _ (run-gap (c .before .before .before .before .before .before .if1 .left)
+    (c .before .before .before .before .before .run-start .ensures)
+    (c .before .before .before .before .before .before .before .before .before .pre .1) (c .before .before .before .before .if2 .left)
+    (c .before .before .before .next-job .ensures) (c .before .before .if3 .left))
     (sym (c .before .asleep .ensures) ∙ c .if4 .taken)
 
 returns-5 : tie.Need-returns-5
 returns-5 c =
-    in-awake _ (run-gap (c .before .before .before .before .before .before .if1 .left) (c .before .before .before .before .before .run-start .ensures)
-    (c .before .before .before .before .before .before .before .before .before .pre .1) (c .before .before .before .before .if2 .left) (c .before .before .before .next-job .ensures) (c .before .before .if3 .left))
+    in-awake _ (run-gap (c .before .before .before .before .before .before .if1 .left)
+    (c .before .before .before .before .before .run-start .ensures)
+    (c .before .before .before .before .before .before .before .before .before .pre .1) (c .before .before .before .before .if2 .left)
+    (c .before .before .before .next-job .ensures) (c .before .before .if3 .left))
     (sym (c .before .asleep .ensures) ∙ c .if4 .left)
 
 pub fill-at-spec : {M : Type 1} → statement M
