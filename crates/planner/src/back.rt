@@ -7,12 +7,13 @@ ghost use Rattle.rule.specs.Span.{split};
 ghost use Rattle.planner.specs.Written.{Written};
 ghost use Rattle.planner.specs.Jobs.{jobs};
 ghost use Rattle.planner.specs.ReadBack.{Readable, Tells, ReadBack};
+use crate::fill;
 use crate::rows;
 use day::Day;
 use day::wide;
 
-// Where `job`, which is released in the span from `from` to `to`, splits it: the latest place at which the two sides together have
-// the span's value.
+// Where `job`, which is released in the span from `from` to `to`, splits it: of the places with the least sum of the two sides the
+// latest.
 fn split_of(
     day: Day,
     rel: &[u16],
@@ -27,15 +28,17 @@ fn split_of(
     requires { ⌜ (from ≤ at (now rel) job) × (at (now rel) job < to) ⌝ }
     ensures { λ r. ⌜ r ≡ split (jobs day (now (rel .entry)) (now (dead .entry))) job from to ⌝ }
 {
-    let best = rows::value_at(table, day.slots, job + 1, from, to);
     let end = day::lesser(wide(dead[job]), to);
+    let mut least = fill::NONE;
     let mut found = 0;
     let mut point = wide(rel[job]);
     while point < end {
         if job <= wide(lowest[point]) {
             let left = rows::value_at(table, day.slots, job, from, point);
             let right = rows::value_at(table, day.slots, job, point + 1, to);
-            if left + right == best {
+            let sum = left + right;
+            if sum <= least {
+                least = sum;
                 found = point;
             }
         }

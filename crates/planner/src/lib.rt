@@ -122,10 +122,11 @@ pub fn plan(
         return checked;
     }
     let count = releases.len();
+    let needed = rows::need_of(day.slots, count);
     if starts.len() < count {
         return Answer::of(code::FEW_STARTS);
     }
-    if table.len() < rows::need_of(day.slots, count) {
+    if table.len() < needed {
         return Answer::of(code::SHORT_TABLE);
     }
     let mut order = [0usize; 40];

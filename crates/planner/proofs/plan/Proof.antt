@@ -1,10 +1,9 @@
 -- `planner::plan` meets its contract: each check that refuses answers, and what they accept is planned. Assumes nothing.
-use Prim.Native.Nat.{ℕ, _≤_, _<_}
-use mathlib.Core.Path.{_≡_, sym, ap}
+use Prim.Native.Nat.{_≤_, _<_}
+use mathlib.Core.Path.{_≡_, ap}
 use native.Mathlib.Omega.{arith}
 use lib.ListN.{length, length-take, length-replicate}
 use denote.Ref.{now}
-use Rattle.day.specs.declared.Answer.{Answer}
 use Rattle.day.specs.Windows.{windows}
 use Rattle.day.specs.Refusal.{stops, goes-on}
 use Rattle.day.specs.Check.{ListCheck}
@@ -28,24 +27,24 @@ returns c =
     planned-refused (PlanCheck (a .day) w (now (a .starts)) (now (a .table))) (need (a .day .slots) (length (now (a .releases)))) (a .day) w (now (a .starts)) (now (a .table)) (c .before .before .check-list .result)
     (then-group _ (then-refused _ refused (c .if1 .taken))) (c .if1 .taken) (list-not-no-plan (a .day) w _ refused)
 
+need-of-requires : tie.Need-need-of-requires
+need-of-requires c κs =
+    let a = c .before .before .before .before .before .before .before .args in
+    let w = windows (now (a .releases)) (now (a .deadlines)) in
+    let clear = passed-clear {Check = ListCheck (a .day) w} list-is-check (c .before .before .check-list .result) (c .before .before .check-list .ensures) (c .if1 .left) in
+    omega (arith, clear-accepted clear .rows .count)
+
 of-requires : tie.Need-of-requires
 of-requires c κs = search needs
 
 returns-2 : tie.Need-returns-2
 returns-2 c =
-    let a = c .before .before .before .before .before .before .before .before .before .args in
+    let a = c .before .before .before .before .before .before .before .before .before .before .args in
     let w = windows (now (a .releases)) (now (a .deadlines)) in
-    let clear = passed-clear {Check = ListCheck (a .day) w} list-is-check (c .before .before .before .before .check-list .result) (c .before .before .before .before .check-list .ensures) (c .before .before .if1 .left) in
+    let clear = passed-clear {Check = ListCheck (a .day) w} list-is-check (c .before .before .before .before .before .check-list .result) (c .before .before .before .before .before .check-list .ensures) (c .before .before .before .if1 .left) in
     planned-refused (PlanCheck (a .day) w (now (a .starts)) (now (a .table))) (need (a .day .slots) (length (now (a .releases)))) (a .day) w (now (a .starts)) (now (a .table)) (c .of .result)
     (stops (goes-on clear (stops (record { fault = omega arith; says = c .of .ensures }))))
     (λ e. omega (arith, ap code-of (c .of .ensures))) (λ e. omega (arith, ap code-of (c .of .ensures)))
-
-need-of-requires : tie.Need-need-of-requires
-need-of-requires c κs =
-    let a = c .before .before .before .before .before .before .before .before .args in
-    let w = windows (now (a .releases)) (now (a .deadlines)) in
-    let clear = passed-clear {Check = ListCheck (a .day) w} list-is-check (c .before .before .before .check-list .result) (c .before .before .before .check-list .ensures) (c .before .if1 .left) in
-    omega (arith, clear-accepted clear .rows .count)
 
 of-requires-2 : tie.Need-of-requires-2
 of-requires-2 c κs = search needs
@@ -101,9 +100,9 @@ plan-spec =
     (tie.spec
     check-list-requires
     returns
+    need-of-requires
     of-requires
     returns-2
-    need-of-requires
     of-requires-2
     returns-3
     array-borrow-prefix-order
