@@ -27,6 +27,7 @@ const MARK_FIRST: u8 = 80;
 const MARK_SECOND: u8 = 76;
 
 // What the reader gives beside the rows that it fills.
+#[repr(C)]
 pub struct Reading {
     pub answer: Answer,
     pub count: u16,

@@ -1,0 +1,13 @@
+pub mod Copied
+pub mod Columns
+pub mod Put
+pub mod TooMany
+pub mod ByValue
+pub mod Promises
+pub mod PutPromises
+pub mod Setting
+pub mod Runs
+pub mod Copies
+pub mod Handed
+pub mod Shared
+pub mod Puts

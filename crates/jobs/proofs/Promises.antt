@@ -1,0 +1,71 @@
+-- What is promised of the rows of a list is promised of the list. Assumes nothing.
+use Prim.Native.Nat.{ℕ, _<_, _≤_, min}
+use mathlib.Core.Path.{_≡_, refl, sym, _∙_, ap, subst}
+use mathlib.Core.List.{List}
+use native.Mathlib.Omega.{arith}
+use lib.ListN.{length, length-map}
+use lib.IntN.{ℤ}
+use denote.Ref.{RefT, now}
+use Rattle.day.specs.declared.Answer.{Answer}
+use Rattle.day.specs.declared.Day.{Day}
+use Rattle.day.specs.declared.Job.{Job}
+use Rattle.day.specs.Windows.{windows}
+use Rattle.day.specs.Answer.{done}
+use Rattle.day.specs.Check.{most-jobs, ListCheck}
+use Rattle.day.proofs.Cases.{on-le}
+use Rattle.day.proofs.Check.{list-is-check}
+use Rattle.day.proofs.Refusal.{refuses-is-check}
+use Rattle.claim.specs.Claim.{Priced}
+use Rattle.claim.specs.Choice.{Chosen, PartFor, refused, of-own, of-server, HandedBack}
+use Rattle.dayfile.specs.Writer.{Written}
+use Rattle.jobs.specs.Rows.{rows-of, releases-in, deadlines-in, windows-in}
+use Rattle.jobs.specs.Columns.{releases, deadlines, windows-of}
+use Rattle.jobs.proofs.Columns.{few-releases, few-deadlines, many-rows}
+use Rattle.jobs.proofs.TooMany.{alike-stops, alike-first, counts-alike, lists-alike}
+
+-- where it is promised of any more than 40 rows alike
+pub listed : (P : List ℕ → List ℕ → Type 0) → ((xs ys xs′ ys′ : List ℕ) → most-jobs < length xs → most-jobs < length xs′ → P xs ys → P xs′ ys′) → (jobs : List Job)
+    → P (releases-in (rows-of jobs)) (deadlines-in (rows-of jobs)) → P (releases jobs) (deadlines jobs)
+listed P alike jobs p =
+    on-le (length jobs) most-jobs (λ h. rw (sym (few-releases jobs h), sym (few-deadlines jobs h)) p)
+    (λ h. alike (releases-in (rows-of jobs)) (deadlines-in (rows-of jobs)) (releases jobs) (deadlines jobs) (many-rows jobs h) (omega (arith, length-map jobs (λ job. job .release))) p)
+
+module _ (jobs : List Job) where
+  pub list-priced : (day : Day) (starts : List ℕ) (a : Answer) → Priced day (windows-in (rows-of jobs)) starts a → Priced day (windows-of jobs) starts a
+  list-priced day starts a =
+      listed (λ xs ys. Priced day (windows xs ys) starts a)
+      (λ xs ys xs′ ys′ h l. alike-first (alike-first (lists-alike (windows xs ys) (windows xs′ ys′) h l day)) .same a) jobs
+
+  pub list-chosen : (day : Day) (own server : List ℕ) (a : Answer) → Chosen day (windows-in (rows-of jobs)) own server a → Chosen day (windows-of jobs) own server a
+  list-chosen day own server a =
+      listed (λ xs ys. Chosen day (windows xs ys) own server a)
+      (λ xs ys xs′ ys′ h l. alike-first (lists-alike (windows xs ys) (windows xs′ ys′) h l day) .same a) jobs
+
+  pub list-handed : (day : Day) (own server part : RefT (List ℕ)) → HandedBack day (windows-in (rows-of jobs)) own server part → HandedBack day (windows-of jobs) own server part
+  list-handed day own server part =
+      listed (λ xs ys. HandedBack day (windows xs ys) own server part)
+      (λ xs ys xs′ ys′ h l p.
+      let alike : _ = lists-alike (windows xs ys) (windows xs′ ys′) h l day in
+      record {
+        answer = p .answer;
+        chosen = alike-first alike .same (p .answer) (p .chosen);
+        handed = empty (length xs) (length xs′) (p .answer) (list-is-check .not-done (p .answer) (alike-stops alike (p .answer) (p .chosen))) (p .handed);
+      }) jobs
+    where
+      -- under a refusal the part is the same for any number of rows
+      empty : (n m : ℕ) (a : Answer) → (a .code ≡ done → ⊥) → PartFor n own server part a → PartFor m own server part a
+      empty n m a h (refused r s) = refused r s
+      empty n m a h (of-own e s) = absurd (h (ap (λ (b : Answer). b .code) e))
+      empty n m a h (of-server e s) = absurd (h (ap (λ (b : Answer). b .code) e))
+
+  pub list-written : (notes : ℕ) (day : Day) (file : List ℕ) (a : Answer) (file-after : List ℕ) → Written notes day (releases-in (rows-of jobs)) (deadlines-in (rows-of jobs)) file a file-after
+      → Written notes day (releases jobs) (deadlines jobs) file a file-after
+  list-written notes day file a file-after =
+      listed (λ xs ys. Written notes day xs ys file a file-after)
+      (λ xs ys xs′ ys′ h l p.
+      let alike : _ = counts-alike (length xs) (length xs′) h l in
+      record {
+        answer = alike-first alike .same a (p .answer);
+        accepted = λ e. absurd (refuses-is-check (λ z. omega arith) .not-done a (alike-stops alike a (p .answer)) e);
+        refused = p .refused;
+      }) jobs

@@ -1,0 +1,50 @@
+-- `jobs::by_value::read` meets its contract. Assumes nothing.
+use mathlib.Core.Path.{sym}
+use borrow.Author.Needs.{needs}
+use lib.Seq.{length-take-le}
+use Rattle.jobs.specs.Rows.{zeros}
+use Rattle.jobs.proofs.Copied.{put-few}
+use Rattle.jobs.proofs.ByValue.{read-columns}
+use Rattle.jobs.proofs.by_value.read.Statement.{statement}
+use Rattle.jobs.proofs.by_value.read.Tie as tie
+
+rows-put-requires : tie.Need-rows-put-requires
+rows-put-requires c κs = search needs
+
+array-borrow-prefix-releases : tie.Need-array-borrow-prefix-releases
+array-borrow-prefix-releases c = put-few (c .before .before .args .room) 41 (c .rows-put .result) (c .rows-put .ensures)
+
+slice-aggregate-read : tie.Need-slice-aggregate-read
+slice-aggregate-read c = sym (length-take-le (c .before .rows-put .result) zeros (put-few (c .before .before .before .args .room) 41 (c .before .rows-put .result) (c .before .rows-put .ensures)))
+
+array-borrow-prefix-deadlines : tie.Need-array-borrow-prefix-deadlines
+array-borrow-prefix-deadlines c = put-few (c .before .before .before .args .room) 41 (c .before .rows-put .result) (c .before .rows-put .ensures)
+
+slice-aggregate-read-2 : tie.Need-slice-aggregate-read-2
+slice-aggregate-read-2 c = sym (length-take-le (c .before .before .rows-put .result) zeros (put-few (c .before .before .before .before .args .room) 41 (c .before .before .rows-put .result) (c .before .before .rows-put .ensures)))
+
+read-requires : tie.Need-read-requires
+read-requires c κs = search needs
+
+wide-requires : tie.Need-wide-requires
+wide-requires c κs = search needs
+
+returns : tie.Need-returns
+returns c =
+    record {
+      read = read-columns (c .before .before .before .before .before .before .before .before .args .room) (c .before .before .before .before .before .before .rows-put .ensures) (c .before .before .before .read .kept .1 .0) (c .before .before .before .read .kept .1 .1 .0) (c .before .before .before .read .ensures);
+      count = c .wide .ensures .0;
+    }
+
+pub read-spec : {M : Type 1} → statement M
+read-spec =
+    tie.close
+    (tie.spec
+    rows-put-requires
+    array-borrow-prefix-releases
+    slice-aggregate-read
+    array-borrow-prefix-deadlines
+    slice-aggregate-read-2
+    read-requires
+    wide-requires
+    returns)

@@ -1,0 +1,66 @@
+// Each entry point over a lent list of job records, and the door for the notebook's firmware: what C can take is exported.
+mod by_value;
+mod rows;
+
+use day::Answer;
+use day::Day;
+use day::Job;
+use dayfile::Reading;
+ghost use Rattle.claim.specs.Claim.{Priced};
+ghost use Rattle.claim.specs.Choice.{Chosen, HandedBack};
+ghost use Rattle.dayfile.specs.Reader.{Read};
+ghost use Rattle.dayfile.specs.Writer.{Written};
+ghost use Rattle.moving.specs.Moving.{MovedList};
+ghost use Rattle.jobs.specs.Columns.{releases, deadlines, windows-of};
+
+// Prices a claimed plan.
+#[no_mangle]
+pub extern "C" fn chaskuri_price(day: Day, jobs: &[Job], starts: &[u16]) -> Answer
+    ensures { λ a. ⌜ Priced day (windows-of (now (jobs .entry))) (now (starts .entry)) a ⌝ }
+{
+    by_value::price(day, rows::copy_out(jobs), starts)
+}
+
+// Which of two claimed plans for one list wins: as first number 1, the notebook's own, or 2, the server's.
+#[no_mangle]
+pub extern "C" fn chaskuri_which(day: Day, jobs: &[Job], own: &[u16], server: &[u16]) -> Answer
+    ensures { λ a. ⌜ Chosen day (windows-of (now (jobs .entry))) (now (own .entry)) (now (server .entry)) a ⌝ }
+{
+    by_value::which(day, rows::copy_out(jobs), own, server)
+}
+
+// The winner's first starts, one for each job, as a part of the plan that was lent; under a refusal the empty start of the notebook's own.
+// C takes no reference as a result: it asks `chaskuri_which`.
+pub fn choose<'j, 'a>(day: Day, jobs: &'j [Job], own: &'a [u16], server: &'a [u16]) -> &'a [u16]
+    ensures { λ part. ⌜ HandedBack day (windows-of (now (jobs .entry))) (own .entry) (server .entry) part ⌝ }
+{
+    by_value::choose(day, rows::copy_out(jobs), own, server)
+}
+
+// Moves every row by `by` slots, in the caller's own list; a positive number is later. Where it refuses, the list is not touched.
+#[no_mangle]
+pub extern "C" fn chaskuri_move(slots: u16, jobs: &mut [Job], by: i16) -> Answer
+    ensures { λ a. ⌜ MovedList slots by (releases (now (jobs .entry))) (deadlines (now (jobs .entry))) a (releases (now (jobs .exit))) (deadlines (now (jobs .exit))) ⌝ }
+{
+    let moved = by_value::move_list(slots, rows::copy_out(jobs), by);
+    rows::put_back(jobs, moved.rows);
+    moved.answer
+}
+
+// Reads the rows of a day file into the first records of the lent list. Where it refuses, the list is not touched.
+#[no_mangle]
+pub extern "C" fn chaskuri_read(file: &[u8], jobs: &mut [Job]) -> Reading
+    ensures { λ r. ⌜ Read (now (file .entry)) (releases (now (jobs .entry))) (deadlines (now (jobs .entry))) r (releases (now (jobs .exit))) (deadlines (now (jobs .exit))) ⌝ }
+{
+    let read = by_value::read(file, jobs.len());
+    rows::put_back(jobs, read.rows);
+    read.reading
+}
+
+// Writes the list and a trailer after the first `notes` bytes of `file`. Where it refuses, no byte is touched.
+#[no_mangle]
+pub extern "C" fn chaskuri_write(day: Day, jobs: &[Job], notes: usize, file: &mut [u8]) -> Answer
+    ensures { λ a. ⌜ Written notes day (releases (now (jobs .entry))) (deadlines (now (jobs .entry))) (now (file .entry)) a (now (file .exit)) ⌝ }
+{
+    by_value::write(day, rows::copy_out(jobs), notes, file)
+}
