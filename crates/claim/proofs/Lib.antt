@@ -1,5 +1,4 @@
 -- The laws of the definitions in specs/.
-pub mod Asleep
 pub mod Claim
 pub mod Choice
 pub mod Pair

@@ -1,6 +1,5 @@
 // Claimed plans: what a plan for a list costs, and which of two plans wins.
 mod check;
-pub mod gap;
 pub mod slots;
 
 ghost use mathlib.Core.Path.{_≡_};

@@ -6,7 +6,6 @@ ghost use Rattle.day.specs.Windows.{at};
 ghost use Rattle.day.specs.Check.{most-jobs, most-slots};
 ghost use Rattle.day.specs.Gap.{price, gaps, total};
 ghost use Rattle.claim.specs.Rows.{RowsBySlot, NextJob, holds-job};
-use crate::gap;
 use day::Power;
 
 // The row, counted from 1, that starts at each slot; 0 where none does.
@@ -50,7 +49,7 @@ pub(crate) fn cost(power: Power, rows: &[u16]) -> u16
         if rows[slot] == 0 {
             empty += 1;
         } else {
-            cost += gap::price(power, empty);
+            cost += power.price(empty);
             empty = 0;
         }
         slot += 1;

@@ -3,24 +3,19 @@
 use Prim.Native.Nat.{ℕ, _+_, _≤_, _<_}
 use mathlib.Core.Path.{_≡_, sym}
 use native.Mathlib.Omega.{arith}
-use native.Mathlib.Nat.{min-eq-left}
 use Rattle.day.specs.declared.Power.{Power}
 use Rattle.day.specs.declared.Day.{Day}
 use Rattle.day.specs.Windows.{Windows}
 use Rattle.day.specs.Plan.{Plan, Proper, NoPlan}
-use Rattle.day.specs.Gap.{price, cost}
+use Rattle.day.specs.Gap.{cost}
 use Rattle.day.specs.Best.{AsLate, Best}
 use Rattle.day.specs.Change.{beside, after, joined, joining, Apart}
 use Rattle.day.proofs.Cases.{give}
 use Rattle.day.proofs.Plan.{alike-refl, proper-cong}
-use Rattle.day.proofs.Gap.{cost-agree}
+use Rattle.day.proofs.Gap.{price-long, cost-agree}
 use Rattle.day.proofs.Best.{best-cong}
 use Rattle.day.proofs.Joined.{beside-first, beside-after, first-proper, second-proper, joined-proper, first-as-late, second-as-late, joined-as-late}
 use Rattle.day.proofs.JoinedCost.{joined-cost}
-
-price-long : (power : Power) (x : ℕ) → power .wake ≤ x → price power x ≡ power .wake
-unfolding price
-price-long power x l = min-eq-left l
 
 -- where the first list ends by g and the second begins at g + L or later, they are apart
 pub apart-by-wake : (power : Power) (g : ℕ) (w v : Windows)

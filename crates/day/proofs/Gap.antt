@@ -4,11 +4,12 @@ use mathlib.Core.Path.{_≡_, refl, sym, _∙_, ap}
 use mathlib.Core.Bool.{Bool, true, false}
 use mathlib.Core.List.{List, [], _∷_}
 use native.Mathlib.Omega.{arith}
-use native.Mathlib.Nat.{min-zero, min-le-left, min-le-right}
+use native.Mathlib.Nat.{min-zero, min-le-left, min-le-right, min-eq-left, min-eq-right, le-of-lt}
+use borrow.Author.Tests.{leb-true, leb-false}
 use Rattle.day.specs.declared.Power.{Power}
 use Rattle.day.specs.declared.Day.{Day}
 use Rattle.day.specs.Plan.{Plan, taken}
-use Rattle.day.specs.Gap.{price, ended, gaps-since, gaps, total, cost}
+use Rattle.day.specs.Gap.{price, asleep, ended, gaps-since, gaps, total, cost}
 use Rattle.day.proofs.Cases.{give, on}
 use Rattle.day.proofs.Plan.{taken-agree, taken-false}
 
@@ -25,6 +26,19 @@ price-at-most-wake power g = min-le-left (power .wake) g
 pub price-at-most-length : (power : Power) (g : ℕ) → price power g ≤ g
 unfolding price
 price-at-most-length power g = min-le-right (power .wake) g
+
+-- a gap of at least a wake costs a wake
+pub price-long : (power : Power) (g : ℕ) → power .wake ≤ g → price power g ≡ power .wake
+unfolding price
+price-long power g l = min-eq-left l
+
+pub price-asleep : (power : Power) (g : ℕ) → asleep power g ≡ true → price power g ≡ power .wake
+unfolding asleep
+price-asleep power g h = price-long power g (leb-true (power .wake) g h)
+
+pub price-awake : (power : Power) (g : ℕ) → asleep power g ≡ false → price power g ≡ g
+unfolding price asleep
+price-awake power g h = min-eq-right (le-of-lt (leb-false (power .wake) g h))
 
 -- the clauses of the definitions
 

@@ -17,7 +17,7 @@ use Rattle.day.proofs.Cases.{give, on, on-eq}
 use Rattle.day.proofs.Refusal.{first-or-none}
 use Rattle.day.proofs.Gap.{total-none, total-cons, gaps-since-none, gaps-since-full, gaps-since-empty, gaps-same}
 use Rattle.claim.specs.Rows.{row-at}
-use Rattle.claim.proofs.Asleep.{price-asleep, price-awake}
+use Rattle.day.proofs.Gap.{price-asleep, price-awake}
 use Rattle.claim.proofs.Rows.{row-at-taken}
 use Rattle.claim.proofs.Walk.{gaps-from-first}
 use Rattle.ledger.specs.declared.Counts.{Counts}

@@ -17,7 +17,7 @@ use day::Power;
 fn slept(power: Power, gap: u16) -> u16
     ensures { λ r. ⌜ r ≡ cond (asleep power gap) gap 0 ⌝ }
 {
-    if claim::gap::asleep(power, gap) {
+    if power.asleep(gap) {
         return gap;
     }
     0
@@ -87,7 +87,7 @@ pub(crate) fn fill_at(power: Power, rows: &[u16], slot: usize) -> Fill
     if end == rows.len() {
         return Fill::After;
     }
-    if claim::gap::asleep(power, (end - start) as u16) {
+    if power.asleep((end - start) as u16) {
         return Fill::Asleep;
     }
     Fill::Awake

@@ -22,7 +22,7 @@ use Rattle.day.proofs.Check.{good-rows-deadlines}
 use Rattle.day.proofs.Zero.{zeroed-length, zeroed-below, zeroed-beyond}
 use Rattle.rule.specs.Span.{Problem, value, read-back}
 use Rattle.rule.specs.Whole.{problem, whole, whole-back, without-ends, ByNumber, Ready}
-use Rattle.rule.proofs.Numbering.{one-number}
+use Rattle.day.proofs.Number.{numbered-apart}
 use Rattle.rule.proofs.Value.{Agree, value-agree, read-back-agree}
 use Rattle.rule.proofs.Whole.{whole-none, whole-best, whole-cost}
 use Rattle.planner.specs.Table.{place, need}
@@ -171,7 +171,7 @@ module _ (day : Day) (releases deadlines order : List ℕ) (accepted : Accepted 
 
   -- no row has two numbers
   pub rows-apart : (k l : ℕ) → k < l → l < n → at order k ≡ at order l → ⊥
-  rows-apart k l h b q = omega (arith, one-number n (at deadlines) (at order) numbered k l (omega arith) b q)
+  rows-apart k l h b q = omega (arith, numbered-apart n (at deadlines) (at order) numbered k l (omega arith) b q)
 
   -- releases and deadlines are put into that order
   module _ (rel dead rel₀ dead₀ : List ℕ) (r : Written itself 0 n (by-number releases order) rel₀ rel)

@@ -11,7 +11,6 @@ ghost use Rattle.planner.specs.Written.{Written, itself, lowered};
 ghost use Rattle.planner.specs.Jobs.{none, jobs, Prepared};
 ghost use Rattle.planner.specs.Level.{Level, Rows, Filled};
 use crate::rows;
-use claim::gap;
 use day::Day;
 use day::wide;
 
@@ -123,7 +122,7 @@ fn far_price(day: Day, from: usize, to: usize) -> u16
     if to == wide(day.slots) + 2 {
         return day.power.wake;
     }
-    gap::price(day.power, (to - from) as u16)
+    day.power.price((to - from) as u16)
 }
 
 // Fills the row of no jobs from the point `from` on.

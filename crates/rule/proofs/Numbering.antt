@@ -5,18 +5,10 @@ use native.Mathlib.Omega.{arith}
 use Rattle.day.specs.Plan.{Plan}
 use Rattle.day.specs.Number.{Lower, Numbered}
 use Rattle.day.proofs.Cases.{give, on-le, on-eq}
-use Rattle.day.proofs.Number.{lower-irreflexive, lower-transitive}
+use Rattle.day.proofs.Number.{lower-irreflexive, lower-transitive, numbered-apart}
 use Rattle.rule.specs.Whole.{ByNumber}
 
 module _ (count : ℕ) (deadline row : ℕ → ℕ) (N : Numbered count deadline row) where
-  -- no row has two numbers
-  pub one-number : (k l : ℕ) → k < count → l < count → row k ≡ row l → k ≡ l
-  one-number k l h b e =
-      on-eq k l (λ q. q)
-      (λ q.
-      on-le k l (λ m. absurd (lower-irreflexive deadline (row l) (rw e at (N .rising k l (omega arith) b))))
-      (λ m. absurd (lower-irreflexive deadline (row l) (rw e at (N .rising l k m h)))))
-
   -- of two rows the lower has the lower number
   pub lower-number : (k l : ℕ) → k < count → l < count → Lower deadline (row k) (row l) → k < l
   lower-number k l h b w =
@@ -31,7 +23,7 @@ module _ (count : ℕ) (deadline row : ℕ → ℕ) (N : Numbered count deadline
   at-row b i =
       on-le (suc i) count
       (λ h.
-      give (N .each i h) (λ n. (b (n .0), λ k l e. ap b (one-number (n .0) k (n .1) l (n .2 ∙ sym e)))))
+      give (N .each i h) (λ n. (b (n .0), λ k l e. ap b (numbered-apart count deadline row N (n .0) k (n .1) l (n .2 ∙ sym e)))))
       (λ h. (0, λ k l e. absurd (omega (arith, N .within k l))))
 
   -- starts by number, each counted from 1, are those of a plan

@@ -12,13 +12,14 @@ use Rattle.day.specs.Far.{from-one}
 use Rattle.day.proofs.Cases.{give, on, on-eq, bool-ext}
 use Rattle.day.proofs.Plan.{taken-true, taken-intro}
 use Rattle.day.proofs.Far.{from-one-zero, from-one-suc}
+use Rattle.day.proofs.Number.{numbered-apart}
 use Rattle.rule.specs.Span.{Problem}
 use Rattle.rule.specs.Whole.{problem, ByNumber, Ready}
 use Rattle.rule.proofs.Value.{In}
 use Rattle.rule.proofs.Occupied.{SpanPlan, occupied, occupied-true, occupied-intro}
 use Rattle.rule.proofs.Swap.{ByDeadline}
 use Rattle.rule.proofs.Late.{LateInSpan, same as same-by-number, later as later-by-number}
-use Rattle.rule.proofs.Numbering.{one-number, lower-number}
+use Rattle.rule.proofs.Numbering.{lower-number}
 
 module _ (day : Day) (w : Windows) (row : ℕ → ℕ) (none : ℕ) (R : Ready day w row none) where
   abbrev jobs : Problem
@@ -44,7 +45,7 @@ module _ (day : Day) (w : Windows) (row : ℕ → ℕ) (none : ℕ) (R : Ready d
             (λ i. omega (arith, e k l, P .inside (row k) i, R .in-day (row k) i));
         allowed = λ k l h. refl;
         apart = λ k l h u m v q.
-            one-number (w .count) (w .deadline) row (R .numbered) k l h u
+            numbered-apart (w .count) (w .deadline) row (R .numbered) k l h u
             (P .apart (row k) (row l) (R .numbered .within k h) (R .numbered .within l u) (omega (arith, e k h, e l u)));
       }
 
