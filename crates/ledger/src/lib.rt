@@ -30,6 +30,7 @@ pub struct SlotAnswer {
 }
 
 // How many slots of the day are filled by each.
+#[repr(C)]
 pub struct Counts {
     pub before: u16,
     pub job: u16,
@@ -39,6 +40,7 @@ pub struct Counts {
 }
 
 // The answer of the ledger.
+#[repr(C)]
 pub struct LedgerAnswer {
     pub answer: Answer,
     pub counts: Counts,
