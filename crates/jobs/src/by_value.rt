@@ -1,4 +1,6 @@
 // Each entry point over the rows of a list by value: its number form, over the columns of the rows.
+use crate::numbers::SlotNumbers;
+use crate::numbers::of_slot;
 use crate::rows::Rows;
 use crate::rows::rows_put;
 use day::Answer;
@@ -6,10 +8,15 @@ use day::Day;
 use day::code;
 use day::wide;
 use dayfile::Reading;
+use ledger::LedgerAnswer;
+use ledger::SlotAnswer;
 ghost use Rattle.claim.specs.Claim.{Priced};
 ghost use Rattle.claim.specs.Choice.{Chosen, HandedBack};
 ghost use Rattle.dayfile.specs.Writer.{Written};
+ghost use Rattle.ledger.specs.Promise.{Ledgered, SlotShown};
 ghost use Rattle.jobs.specs.Rows.{releases-in, deadlines-in, windows-in, Placed};
+ghost use Rattle.jobs.specs.Plans.{PlannedColumns};
+ghost use Rattle.jobs.specs.Slot.{SlotNumbered};
 ghost use Rattle.jobs.specs.ByValue.{MovesRows, ReadsRows};
 
 // The answer of moving, and the rows to put back; none where it refuses.
@@ -22,6 +29,16 @@ pub struct MovedRows {
 pub struct ReadRows {
     pub reading: Reading,
     pub rows: Rows,
+}
+
+pub(crate) fn plan(day: Day, rows: Rows, starts: &mut [u16], table: &mut [u16]) -> Answer
+    requires { ⌜ Placed rows ⌝ }
+    ensures { λ a. ⌜ PlannedColumns day (releases-in rows) (deadlines-in rows) (now (starts .entry)) (now (table .entry)) a (now (starts .exit)) (now (table .exit)) ⌝ }
+{
+    let count = rows.count;
+    let releases = rows.releases;
+    let deadlines = rows.deadlines;
+    planner::plan(day, &releases[..count], &deadlines[..count], starts, table)
 }
 
 pub(crate) fn price(day: Day, rows: Rows, starts: &[u16]) -> Answer
@@ -52,6 +69,33 @@ pub(crate) fn choose<'a>(day: Day, rows: Rows, own: &'a [u16], server: &'a [u16]
     let releases = rows.releases;
     let deadlines = rows.deadlines;
     claim::choose(day, &releases[..count], &deadlines[..count], own, server)
+}
+
+pub(crate) fn ledger(day: Day, rows: Rows, starts: &[u16]) -> LedgerAnswer
+    requires { ⌜ Placed rows ⌝ }
+    ensures { λ answered. ⌜ Ledgered day (windows-in rows) (now (starts .entry)) answered ⌝ }
+{
+    let count = rows.count;
+    let releases = rows.releases;
+    let deadlines = rows.deadlines;
+    ledger::ledger(day, &releases[..count], &deadlines[..count], starts)
+}
+
+pub(crate) fn slot(day: Day, rows: Rows, starts: &[u16], asked: u16) -> SlotAnswer
+    requires { ⌜ Placed rows ⌝ }
+    ensures { λ shown. ⌜ SlotShown day (windows-in rows) (now (starts .entry)) asked shown ⌝ }
+{
+    let count = rows.count;
+    let releases = rows.releases;
+    let deadlines = rows.deadlines;
+    ledger::slot(day, &releases[..count], &deadlines[..count], starts, asked)
+}
+
+pub(crate) fn slot_numbers(day: Day, rows: Rows, starts: &[u16], asked: u16) -> SlotNumbers
+    requires { ⌜ Placed rows ⌝ }
+    ensures { λ numbers. ⌜ SlotNumbered day (windows-in rows) (now (starts .entry)) asked numbers ⌝ }
+{
+    of_slot(slot(day, rows, starts, asked))
 }
 
 pub(crate) fn move_list(slots: u16, rows: Rows, by: i16) -> MovedRows

@@ -1,17 +1,38 @@
 // Each entry point over a lent list of job records, and the door for the notebook's firmware: what C can take is exported.
 mod by_value;
+pub mod numbers;
 mod rows;
 
+use crate::numbers::SlotNumbers;
 use day::Answer;
 use day::Day;
 use day::Job;
 use dayfile::Reading;
+use ledger::LedgerAnswer;
+use ledger::SlotAnswer;
 ghost use Rattle.claim.specs.Claim.{Priced};
 ghost use Rattle.claim.specs.Choice.{Chosen, HandedBack};
 ghost use Rattle.dayfile.specs.Reader.{Read};
 ghost use Rattle.dayfile.specs.Writer.{Written};
+ghost use Rattle.ledger.specs.Promise.{Ledgered, SlotShown};
 ghost use Rattle.moving.specs.Moving.{MovedList};
+ghost use Rattle.jobs.specs.Plans.{PlannedColumns};
+ghost use Rattle.jobs.specs.Slot.{SlotNumbered};
 ghost use Rattle.jobs.specs.Columns.{releases, deadlines, windows-of};
+
+// Plans the list at least cost. On code 0 the first number is the cost and the first starts are the best plan's, in row order; on 7 there
+// is no proper plan. The needed places of the table are zero then. Under any other code nothing changes.
+#[no_mangle]
+pub extern "C" fn chaskuri_plan(
+    day: Day,
+    jobs: &[Job],
+    starts: &mut [u16],
+    table: &mut [u16],
+) -> Answer
+    ensures { λ a. ⌜ PlannedColumns day (releases (now (jobs .entry))) (deadlines (now (jobs .entry))) (now (starts .entry)) (now (table .entry)) a (now (starts .exit)) (now (table .exit)) ⌝ }
+{
+    by_value::plan(day, rows::copy_out(jobs), starts, table)
+}
 
 // Prices a claimed plan.
 #[no_mangle]
@@ -35,6 +56,29 @@ pub fn choose<'j, 'a>(day: Day, jobs: &'j [Job], own: &'a [u16], server: &'a [u1
     ensures { λ part. ⌜ HandedBack day (windows-of (now (jobs .entry))) (own .entry) (server .entry) part ⌝ }
 {
     by_value::choose(day, rows::copy_out(jobs), own, server)
+}
+
+// Counts the slots of a claimed plan by what fills them.
+#[no_mangle]
+pub extern "C" fn chaskuri_ledger(day: Day, jobs: &[Job], starts: &[u16]) -> LedgerAnswer
+    ensures { λ answered. ⌜ Ledgered day (windows-of (now (jobs .entry))) (now (starts .entry)) answered ⌝ }
+{
+    by_value::ledger(day, rows::copy_out(jobs), starts)
+}
+
+// What fills one slot of a claimed plan. C takes no enum: it asks `chaskuri_slot`.
+pub fn slot(day: Day, jobs: &[Job], starts: &[u16], asked: u16) -> SlotAnswer
+    ensures { λ shown. ⌜ SlotShown day (windows-of (now (jobs .entry))) (now (starts .entry)) asked shown ⌝ }
+{
+    by_value::slot(day, rows::copy_out(jobs), starts, asked)
+}
+
+// What fills one slot of a claimed plan, in numbers.
+#[no_mangle]
+pub extern "C" fn chaskuri_slot(day: Day, jobs: &[Job], starts: &[u16], asked: u16) -> SlotNumbers
+    ensures { λ numbers. ⌜ SlotNumbered day (windows-of (now (jobs .entry))) (now (starts .entry)) asked numbers ⌝ }
+{
+    by_value::slot_numbers(day, rows::copy_out(jobs), starts, asked)
 }
 
 // Moves every row by `by` slots, in the caller's own list; a positive number is later. Where it refuses, the list is not touched.
