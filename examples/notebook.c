@@ -1,0 +1,65 @@
+/* What the notebook's firmware does with a day: P8 of document 01 is planned, priced, looked at, moved, written and read back.
+ * Run, from the repository's root: rt staticlib jobs, then
+ *     cc -O2 -I include examples/notebook.c target/staticlib/libjobs.a -o target/notebook && target/notebook */
+#include "../include/chaskuri.h"
+
+int printf(const char *, ...);
+
+static void show_jobs(const char *what, const chaskuri_job *jobs, size_t count) {
+    printf("%s", what);
+    for (size_t i = 0; i < count; i++)
+        printf(" (%u,%u)", (unsigned)jobs[i].release, (unsigned)jobs[i].deadline);
+    printf("\n");
+}
+
+static void show_starts(const uint16_t *starts, size_t count) {
+    printf("starts");
+    for (size_t i = 0; i < count; i++)
+        printf(" %u", (unsigned)starts[i]);
+    printf("\n");
+}
+
+static uint16_t table[CHASKURI_TABLE_PLACES(3, 14)];
+
+int main(void) {
+    chaskuri_day day = {10, {3}};
+    chaskuri_job jobs[3] = {{0, 1}, {2, 8}, {9, 10}}, read[40];
+    uint16_t starts[3], server[3] = {0, 5, 9};
+    uint8_t file[64] = "notes";
+
+    chaskuri_answer planned = chaskuri_plan(day, jobs, 3, starts, 3, table, sizeof table / sizeof *table);
+    printf("plan: code %u, cost %u\n", (unsigned)planned.code, (unsigned)planned.first);
+    show_starts(starts, 3);
+
+    chaskuri_answer priced = chaskuri_price(day, jobs, 3, server, 3);
+    printf("the server's plan: code %u, cost %u\n", (unsigned)priced.code, (unsigned)priced.first);
+    chaskuri_answer chosen = chaskuri_which(day, jobs, 3, starts, 3, server, 3);
+    printf("the winner: code %u, plan %u\n", (unsigned)chosen.code, (unsigned)chosen.first);
+
+    chaskuri_ledger_answer ledger = chaskuri_ledger(day, jobs, 3, starts, 3);
+    printf("ledger: code %u, slots %u %u %u %u %u\n", (unsigned)ledger.answer.code, (unsigned)ledger.counts.before, (unsigned)ledger.counts.job,
+           (unsigned)ledger.counts.awake, (unsigned)ledger.counts.asleep, (unsigned)ledger.counts.after);
+    for (uint16_t slot = 6; slot <= 10; slot++) {
+        chaskuri_slot_answer shown = chaskuri_slot(day, jobs, 3, starts, 3, slot);
+        printf("slot %u: code %u, filling %u, row %u\n", (unsigned)slot, (unsigned)shown.answer.code, (unsigned)shown.filling, (unsigned)shown.row);
+    }
+
+    chaskuri_answer moved = chaskuri_move(10, jobs, 3, 1);
+    printf("moved by 1 on a day of 10: code %u, row %u\n", (unsigned)moved.code, (unsigned)moved.first);
+    day.slots = 14;
+    moved = chaskuri_move(14, jobs, 3, 4);
+    printf("moved by 4 on a day of 14: code %u\n", (unsigned)moved.code);
+    show_jobs("jobs", jobs, 3);
+    planned = chaskuri_plan(day, jobs, 3, starts, 3, table, sizeof table / sizeof *table);
+    printf("plan: code %u, cost %u\n", (unsigned)planned.code, (unsigned)planned.first);
+    show_starts(starts, 3);
+
+    chaskuri_answer written = chaskuri_write(day, jobs, 3, 5, file, sizeof file);
+    printf("written after 5 bytes of notes: code %u\n", (unsigned)written.code);
+    chaskuri_reading reading = chaskuri_read(file, 5 + 4 * 3 + 10, read, 40);
+    printf("read: code %u, count %u, slots %u, wake %u\n", (unsigned)reading.answer.code, (unsigned)reading.count, (unsigned)reading.day.slots, (unsigned)reading.day.power.wake);
+    show_jobs("jobs", read, reading.count);
+    reading = chaskuri_read(file, 5 + 4 * 3 + 10, read, 2);
+    printf("read into room for 2: code %u\n", (unsigned)reading.answer.code);
+    return 0;
+}

@@ -1,0 +1,142 @@
+/* Chaskuri: plans one-slot jobs on a machine that can sleep, at least cost. Link with libjobs.a.
+ *
+ * The words are those of the project's document 01. A day has slots 0 to slots-1, from 1 to 96 of them; waking costs 0 to 1000; a list has at
+ * most 40 jobs. Rows are counted from 1 in answers. Starts stand in row order, one for each job.
+ *
+ * A buffer goes in as a pointer and its length. The pointer is aligned and not null, also where the length is 0. A buffer that a call writes
+ * overlaps no other buffer of that call. Nothing else is asked: what a call cannot take it refuses by a code. No call allocates, keeps a
+ * pointer, or touches memory that it was not lent. What is said of each call below is proved, in crates/jobs. */
+#ifndef CHASKURI_H
+#define CHASKURI_H
+
+#include <stddef.h>
+#include <stdint.h>
+
+#ifdef __cplusplus
+extern "C" {
+#endif
+
+/* A job may start in any slot from `release` on, and ends by `deadline`, the first slot after its window. */
+typedef struct {
+    uint16_t release;
+    uint16_t deadline;
+} chaskuri_job;
+
+/* What the machine's sleep costs: `wake` is paid each time it wakes. */
+typedef struct {
+    uint16_t wake;
+} chaskuri_power;
+
+typedef struct {
+    uint16_t slots;
+    chaskuri_power power;
+} chaskuri_day;
+
+/* A code and two numbers; a number that the code does not name is 0. */
+typedef struct {
+    uint16_t code;
+    uint16_t first;
+    uint16_t second;
+} chaskuri_answer;
+
+/* What the reader gives beside the rows; count and day are 0 under a refusal. */
+typedef struct {
+    chaskuri_answer answer;
+    uint16_t count;
+    chaskuri_day day;
+} chaskuri_reading;
+
+/* How many slots are filled so; 0 under a refusal. The five add up to the day's slots. */
+typedef struct {
+    uint16_t before;
+    uint16_t job;
+    uint16_t awake;
+    uint16_t asleep;
+    uint16_t after;
+} chaskuri_counts;
+
+typedef struct {
+    chaskuri_answer answer;
+    chaskuri_counts counts;
+} chaskuri_ledger_answer;
+
+/* What fills a slot. Under a refusal slot, filling and row are 0. */
+typedef struct {
+    chaskuri_answer answer;
+    uint16_t slot;
+    uint16_t filling; /* a chaskuri_filling */
+    uint16_t row;     /* the job's row, counted from 1; 0 where no job stands */
+} chaskuri_slot_answer;
+
+enum chaskuri_filling {
+    CHASKURI_BEFORE = 0,
+    CHASKURI_JOB = 1,
+    CHASKURI_AWAKE = 2,
+    CHASKURI_ASLEEP = 3,
+    CHASKURI_AFTER = 4
+};
+
+enum chaskuri_code {
+    CHASKURI_DONE = 0,            /* planner and pricing: first is the cost */
+    CHASKURI_BAD_SLOTS = 1,       /* no slots, or more than 96 */
+    CHASKURI_BAD_WAKE = 2,        /* a wake that costs more than 1000 */
+    CHASKURI_TOO_MANY_JOBS = 3,   /* more than 40 jobs */
+    CHASKURI_BAD_ROW = 4,         /* first: the first row with an empty window, or one that ends after the day */
+    CHASKURI_FEW_STARTS = 5,      /* fewer places for starts, or fewer claimed starts, than jobs */
+    CHASKURI_SHORT_TABLE = 6,     /* the work table is too short */
+    CHASKURI_NO_PLAN = 7,         /* no proper plan exists */
+    CHASKURI_SHORT_FILE = 8,      /* a day file of fewer than 10 bytes */
+    CHASKURI_WRONG_MARK = 9,      /* a day file that does not end in the mark */
+    CHASKURI_WRONG_DISTANCE = 10, /* the distance back is not that of the file's rows */
+    CHASKURI_CUT_FILE = 11,       /* a file shorter than the distance back */
+    CHASKURI_FEW_ROWS = 12,       /* room for fewer rows than the file has */
+    CHASKURI_NO_ROOM = 13,        /* no room to write the file */
+    CHASKURI_OUTSIDE_WINDOW = 14, /* first: the first row whose claimed start is outside its window */
+    CHASKURI_SAME_START = 15,     /* first: the lowest row of any two that start together; second: its lowest partner */
+    CHASKURI_NEITHER_PROPER = 16, /* neither of two plans is proper */
+    CHASKURI_LEAVES_DAY = 18,     /* first: the first row whose moved window would leave the day */
+    CHASKURI_NO_SUCH_SLOT = 19    /* the slot asked for is not of the day */
+};
+
+/* How many places of the work table a plan of so many jobs on a day of so many slots needs. */
+#define CHASKURI_TABLE_PLACES(jobs, slots) (((size_t)(jobs) + 1) * ((size_t)(slots) + 3) * ((size_t)(slots) + 3))
+
+/* Plans the list at least cost; of the cheapest plans, the one of the tie rule.
+ * Refuses by 1, 2, 3, 4, 5, 6, 7, in that order.
+ * On 0 the first `count` starts are the plan's. On 0 and 7 the needed places of the table are set to zero. Nothing else is written. */
+chaskuri_answer chaskuri_plan(chaskuri_day day, const chaskuri_job *jobs, size_t count, uint16_t *starts, size_t starts_len, uint16_t *table, size_t table_len);
+
+/* What a claimed plan costs. Of the starts only the first `count` matter.
+ * Refuses by 1, 2, 3, 4, 5, 14 over all rows, then 15. Writes nothing. */
+chaskuri_answer chaskuri_price(chaskuri_day day, const chaskuri_job *jobs, size_t count, const uint16_t *starts, size_t starts_len);
+
+/* Which of two claimed plans wins: the cheaper proper one, at equal cost the notebook's own. First: 1, own, or 2, the server's. A plan with too
+ * few starts is not proper. The winner's part is its first `count` starts, where they lie.
+ * Refuses by 1, 2, 3, 4, 16. Writes nothing. */
+chaskuri_answer chaskuri_which(chaskuri_day day, const chaskuri_job *jobs, size_t count, const uint16_t *own, size_t own_len, const uint16_t *server, size_t server_len);
+
+/* Counts the slots of a claimed plan by what fills them.
+ * Refuses as pricing. Writes nothing. */
+chaskuri_ledger_answer chaskuri_ledger(chaskuri_day day, const chaskuri_job *jobs, size_t count, const uint16_t *starts, size_t starts_len);
+
+/* What fills one slot of a claimed plan.
+ * Refuses as pricing, then by 19. Writes nothing. */
+chaskuri_slot_answer chaskuri_slot(chaskuri_day day, const chaskuri_job *jobs, size_t count, const uint16_t *starts, size_t starts_len, uint16_t slot);
+
+/* Moves every window by `by` slots, in the lent list; a positive number is later.
+ * Refuses by 1, 3, 4, 18. On 0 every job is written; else nothing is. */
+chaskuri_answer chaskuri_move(uint16_t slots, chaskuri_job *jobs, size_t count, int16_t by);
+
+/* Reads a day file into the first jobs of the lent list, which has room for `room`. The reader judges neither day nor windows.
+ * Refuses by 8, 9, 3, 10, 11, 12. On 0 the first jobs, as many as the file has rows, are written; else nothing is. */
+chaskuri_reading chaskuri_read(const uint8_t *file, size_t file_len, chaskuri_job *jobs, size_t room);
+
+/* Writes the list as a day file after the first `notes` bytes of `file`, which stay. The file is then the first notes + 4 * count + 10 bytes.
+ * Refuses by 3, 13. On 0 those bytes after the notes are written; else nothing is. */
+chaskuri_answer chaskuri_write(chaskuri_day day, const chaskuri_job *jobs, size_t count, size_t notes, uint8_t *file, size_t file_len);
+
+#ifdef __cplusplus
+}
+#endif
+
+#endif
