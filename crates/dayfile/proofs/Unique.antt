@@ -14,7 +14,7 @@ use Rattle.dayfile.specs.Writer.{RoomCheck, Written}
 use Rattle.dayfile.proofs.Fills.{fills-unique}
 use Rattle.dayfile.proofs.Reader.{day-ext}
 
-file-check-unique : (file : List ℕ) (room : ℕ) (a b : Answer) → FileCheck file room a → FileCheck file room b → a ≡ b
+pub file-check-unique : (file : List ℕ) (room : ℕ) (a b : Answer) → FileCheck file room a → FileCheck file room b → a ≡ b
 file-check-unique file room =
     then-unique (refuses-is-check (λ e. omega arith))
     (then-unique (refuses-is-check (λ e. omega arith))

@@ -1,0 +1,79 @@
+-- `report::text::put_numbers` meets its contract. The loop's invariant: the first i numbers stand in the buffer. Assumes nothing.
+use Prim.Native.Nat.{_+_, _*_, _-_, _≤_}
+use mathlib.Core.Path.{_≡_, refl}
+use native.Mathlib.Numerals.{add-one}
+use native.Mathlib.Omega.{arith}
+use borrow.Author.Needs.{needs}
+use lib.ListN.{length, take}
+use lib.Seq.{take-all}
+use Rattle.report.specs.Append.{Appended}
+use Rattle.report.specs.Lines.{spaced}
+use Rattle.report.proofs.Append.{appended-none, appended-join}
+use Rattle.report.proofs.Lines.{spaced-next}
+use Rattle.report.proofs.text.put_numbers.Statement.{statement}
+use Rattle.report.proofs.text.put_numbers.Tie as tie
+
+abbrev Inv-loop : tie.InvT-loop
+Inv-loop buffer₀ place numbers end₀ i₀ buffer end i =
+    (i ≤ length numbers) × (length buffer ≡ length buffer₀) × (end ≤ place + 6 * i) × Appended (spaced (take i numbers)) place end buffer₀ buffer
+
+abbrev μ-loop : tie.MeasureT-loop
+μ-loop buffer₀ place numbers end₀ i₀ buffer end i = length numbers - i
+
+loop-holds : tie.Need-loop-holds Inv-loop μ-loop
+unfolding spaced
+loop-holds c = (omega arith, refl, omega arith, appended-none _ _ (omega arith))
+
+mul-put-spaced : tie.Need-mul-put-spaced Inv-loop μ-loop
+mul-put-spaced c = search needs
+
+shared-slice-read-put-spaced : tie.Need-shared-slice-read-put-spaced Inv-loop μ-loop
+shared-slice-read-put-spaced c = search needs
+
+put-spaced-requires : tie.Need-put-spaced-requires Inv-loop μ-loop
+put-spaced-requires c κs = search needs
+
+add-i : tie.Need-add-i Inv-loop μ-loop
+add-i c = search needs
+
+loop-less : tie.Need-loop-less Inv-loop μ-loop
+loop-less c = search needs
+
+loop-again : tie.Need-loop-again Inv-loop μ-loop
+loop-again c = (
+  omega arith,
+  omega arith,
+  omega arith,
+  rw (add-one, spaced-next _ _ (c .before .before .before .before .before .loop-test .taken))
+      (appended-join (omega arith) (c .before .before .before .before .before .before .loop .inv .3) (c .before .before .put-spaced .ensures .1)),
+)
+
+put-byte-requires : tie.Need-put-byte-requires Inv-loop μ-loop
+put-byte-requires c κs = search needs
+
+same-length : tie.Need-same-length Inv-loop μ-loop
+same-length c = search needs
+
+returns : tie.Need-returns Inv-loop μ-loop
+returns c = (
+  omega arith,
+  appended-join (omega arith) (rw (take-all _ _ (c .before .before .before .before .loop-test .left)) at (c .before .before .before .before .before .loop .inv .3))
+      (c .before .before .put-byte .ensures),
+)
+
+pub put-numbers-spec : {M : Type 1} → statement M
+put-numbers-spec =
+    tie.close
+    (tie.spec
+    Inv-loop
+    μ-loop
+    loop-holds
+    mul-put-spaced
+    shared-slice-read-put-spaced
+    put-spaced-requires
+    add-i
+    loop-less
+    loop-again
+    put-byte-requires
+    same-length
+    returns)

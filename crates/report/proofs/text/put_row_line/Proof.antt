@@ -1,0 +1,37 @@
+-- `report::text::put_row_line` meets its contract. Assumes nothing.
+use borrow.Author.Needs.{needs}
+use native.Mathlib.Omega.{arith}
+use Rattle.report.specs.Lines.{row-line}
+use Rattle.report.proofs.Append.{appended-join}
+use Rattle.report.proofs.Decimal.{decimal-length}
+use Rattle.report.proofs.text.put_row_line.Statement.{statement}
+use Rattle.report.proofs.text.put_row_line.Tie as tie
+
+put-decimal-requires : tie.Need-put-decimal-requires
+put-decimal-requires c κs = omega (arith, decimal-length 1 (c .before .before .args .row) (omega arith))
+
+slice-aggregate-put-numbers : tie.Need-slice-aggregate-put-numbers
+slice-aggregate-put-numbers c = search needs
+
+put-numbers-requires : tie.Need-put-numbers-requires
+put-numbers-requires c κs = omega (arith, decimal-length 1 (c .before .before .before .before .before .before .before .args .row) (omega arith))
+
+same-length : tie.Need-same-length
+same-length c = search needs
+
+returns : tie.Need-returns
+unfolding row-line
+returns c = (
+  omega (arith, decimal-length 1 (c .before .before .before .before .before .before .before .before .before .before .args .row) (omega arith)),
+  appended-join (omega arith) (c .before .before .before .before .before .before .before .put-decimal .ensures) (c .before .before .put-numbers .ensures .1),
+)
+
+pub put-row-line-spec : {M : Type 1} → statement M
+put-row-line-spec =
+    tie.close
+    (tie.spec
+    put-decimal-requires
+    slice-aggregate-put-numbers
+    put-numbers-requires
+    same-length
+    returns)

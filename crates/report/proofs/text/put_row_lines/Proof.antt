@@ -1,0 +1,78 @@
+-- `report::text::put_row_lines` meets its contract. The loop's invariant: the lines of the first rows stand in the buffer. Assumes nothing.
+use Prim.Native.Nat.{_+_, _*_, _-_, _≤_}
+use mathlib.Core.Path.{_≡_, refl}
+use native.Mathlib.Numerals.{add-one}
+use native.Mathlib.Omega.{arith}
+use borrow.Author.Needs.{needs}
+use lib.ListN.{length}
+use Rattle.day.specs.Windows.{at}
+use Rattle.report.specs.Append.{Appended}
+use Rattle.report.specs.Lines.{row-lines}
+use Rattle.report.proofs.Append.{appended-none, appended-join}
+use Rattle.report.proofs.Lines.{row-lines-next}
+use Rattle.report.proofs.text.put_row_lines.Statement.{statement}
+use Rattle.report.proofs.text.put_row_lines.Tie as tie
+
+abbrev Inv-loop : tie.InvT-loop
+Inv-loop buffer₀ place count starts end₀ row₀ buffer end row =
+    (row ≤ count) × (length buffer ≡ length buffer₀) × (end ≤ place + 9 * row) × Appended (row-lines (at starts) row) place end buffer₀ buffer
+
+abbrev μ-loop : tie.MeasureT-loop
+μ-loop buffer₀ place count starts end₀ row₀ buffer end row = count - row
+
+loop-holds : tie.Need-loop-holds Inv-loop μ-loop
+unfolding row-lines
+loop-holds c = (omega arith, refl, omega arith, appended-none _ _ (omega arith))
+
+add-put-row-line : tie.Need-add-put-row-line Inv-loop μ-loop
+add-put-row-line c = search needs
+
+cast-put-row-line : tie.Need-cast-put-row-line Inv-loop μ-loop
+cast-put-row-line c = search needs
+
+at-or-zero-requires : tie.Need-at-or-zero-requires Inv-loop μ-loop
+at-or-zero-requires c κs = search needs
+
+put-row-line-requires : tie.Need-put-row-line-requires Inv-loop μ-loop
+put-row-line-requires c κs = (omega arith, omega arith)
+
+add-row : tie.Need-add-row Inv-loop μ-loop
+add-row c = search needs
+
+loop-less : tie.Need-loop-less Inv-loop μ-loop
+loop-less c = search needs
+
+loop-again : tie.Need-loop-again Inv-loop μ-loop
+loop-again c = (
+  omega arith,
+  omega arith,
+  omega arith,
+  rw (add-one, row-lines-next)
+      (appended-join (omega arith) (c .before .before .before .before .before .before .loop .inv .3)
+      (rw (add-one, c .before .before .before .at-or-zero .ensures) at (c .before .before .put-row-line .ensures .1))),
+)
+
+same-length : tie.Need-same-length Inv-loop μ-loop
+same-length c = search needs
+
+returns : tie.Need-returns Inv-loop μ-loop
+returns c =
+    let all : c .before .loop .row ≡ c .before .before .before .before .args .count = omega arith in
+    (omega arith, rw all at (c .before .loop .inv .3))
+
+pub put-row-lines-spec : {M : Type 1} → statement M
+put-row-lines-spec =
+    tie.close
+    (tie.spec
+    Inv-loop
+    μ-loop
+    loop-holds
+    add-put-row-line
+    cast-put-row-line
+    at-or-zero-requires
+    put-row-line-requires
+    add-row
+    loop-less
+    loop-again
+    same-length
+    returns)
