@@ -1,0 +1,193 @@
+// Small days: every list of up to 3 jobs in up to 4 slots, and a fixed pseudo-random set of up to 5 jobs in up to 9 slots.
+use crate::beside;
+use crate::direct;
+use crate::draw;
+use crate::print;
+use day::Day;
+use day::Power;
+use day::at_or_zero;
+use day::code;
+use day::wide;
+
+// How many days were compared, how many lists were refused, how many had no plan, and how many showed a difference.
+pub struct Tally {
+    pub days: u64,
+    pub refused: u64,
+    pub without: u64,
+    pub differ: u64,
+}
+
+pub fn none() -> Tally {
+    Tally {
+        days: 0,
+        refused: 0,
+        without: 0,
+        differ: 0,
+    }
+}
+
+pub fn day_of(slots: u16, wake: u16) -> Day {
+    let power = Power { wake };
+    Day { slots, power }
+}
+
+// The first `count` of five numbers.
+fn first(list: &[u16; 5], count: usize) -> &[u16] {
+    direct::part(list, count)
+}
+
+// Every list of up to 3 jobs in up to 4 slots, for every wake cost up to 4.
+pub fn all_small(so_far: Tally, table: &mut [u16]) -> Tally {
+    let mut tally = so_far;
+    let mut kind: u16 = 0;
+    while kind < 80 {
+        let day = day_of(kind % 4 + 1, kind / 16);
+        tally = all_lists(tally, day, wide(kind / 4 % 4), table);
+        kind += 1;
+    }
+    tally
+}
+
+// Every list of `count` rows with releases before the day's end and deadlines up to it; some have an empty window.
+fn all_lists(so_far: Tally, day: Day, count: usize, table: &mut [u16]) -> Tally {
+    let mut tally = so_far;
+    let mut number = 0;
+    while number < 5000 {
+        let mut releases = [0u16; 5];
+        let mut deadlines = [0u16; 5];
+        if put_list(number, day.slots, count, &mut releases, &mut deadlines) > 0 {
+            return tally;
+        }
+        tally = compare(
+            tally,
+            day,
+            first(&releases, count),
+            first(&deadlines, count),
+            table,
+        );
+        number += 1;
+    }
+    tally
+}
+
+// The list of a number: its digits in base `slots`, two for each of the first rows. Gives what is left of the number.
+fn put_list(
+    number: u64,
+    slots: u16,
+    count: usize,
+    releases: &mut [u16; 5],
+    deadlines: &mut [u16; 5],
+) -> u64 {
+    let mut left = number;
+    let mut row = 0;
+    while row < 5 {
+        if row >= count {
+            return left;
+        }
+        releases[row] = draw::digit(left, slots);
+        left = draw::rest(left, slots);
+        deadlines[row] = direct::plus(draw::digit(left, slots), 1);
+        left = draw::rest(left, slots);
+        row += 1;
+    }
+    left
+}
+
+// A pseudo-random set of up to 5 jobs in up to 9 slots.
+pub fn random(so_far: Tally, table: &mut [u16]) -> Tally {
+    let mut tally = so_far;
+    let mut number: u64 = 0;
+    while number < 4000 {
+        tally = random_day(tally, 64 * number, table);
+        number += 1;
+    }
+    tally
+}
+
+fn random_day(so_far: Tally, key: u64, table: &mut [u16]) -> Tally {
+    let slots = direct::plus(1, draw::below(9, key));
+    let second = draw::next(key);
+    let day = day_of(slots, draw::below(6, second));
+    let third = draw::next(second);
+    let count = wide(draw::below(6, third));
+    let mut releases = [0u16; 5];
+    let mut deadlines = [0u16; 5];
+    put_windows(draw::next(third), slots, &mut releases, &mut deadlines);
+    compare(
+        so_far,
+        day,
+        first(&releases, count),
+        first(&deadlines, count),
+        table,
+    )
+}
+
+// Windows in the day.
+fn put_windows(key: u64, slots: u16, releases: &mut [u16; 5], deadlines: &mut [u16; 5]) {
+    let mut here = key;
+    let mut row = 0;
+    while row < 5 {
+        let release = draw::below(slots, here);
+        let more = draw::below(direct::between(release, slots), draw::next(here));
+        releases[row] = release;
+        deadlines[row] = direct::plus(release, direct::plus(more, 1));
+        here = draw::next(draw::next(here));
+        row += 1;
+    }
+}
+
+// Claimed starts, most of them in their windows.
+fn put_claim(key: u64, slots: u16, releases: &[u16], deadlines: &[u16], starts: &mut [u16; 5]) {
+    let mut here = key;
+    let mut row = 0;
+    while row < 5 {
+        let release = at_or_zero(releases, row);
+        let window = direct::between(release, at_or_zero(deadlines, row));
+        starts[row] = direct::plus(release, draw::below(window, here));
+        if draw::below(8, draw::next(here)) == 0 {
+            starts[row] = draw::below(direct::plus(slots, 2), here);
+        }
+        here = draw::next(draw::next(here));
+        row += 1;
+    }
+}
+
+// Compares one day: its plan, two claimed plans, and the choice between them.
+fn compare(
+    so_far: Tally,
+    day: Day,
+    releases: &[u16],
+    deadlines: &[u16],
+    table: &mut [u16],
+) -> Tally {
+    let mut best = [beside::UNTOUCHED; 5];
+    let planned = beside::plan(day, releases, deadlines, &mut best, table);
+    let key = draw::key(so_far.days);
+    let mut own = [0u16; 5];
+    put_claim(key, day.slots, releases, deadlines, &mut own);
+    let length = wide(draw::below(20, draw::next(key)));
+    let same = planned.same
+        && beside::claimed(day, releases, deadlines, first(&own, length))
+        && beside::claimed(day, releases, deadlines, &best)
+        && beside::chosen(day, releases, deadlines, first(&own, length), &best);
+    if !same && so_far.differ == 0 {
+        print::day(day, releases, deadlines);
+    }
+    added(so_far, planned.answer.code, same)
+}
+
+fn added(so_far: Tally, code: u16, same: bool) -> Tally {
+    Tally {
+        days: draw::next(so_far.days),
+        refused: counted(so_far.refused, code == code::BAD_ROW),
+        without: counted(so_far.without, code == code::NO_PLAN),
+        differ: counted(so_far.differ, !same),
+    }
+}
+
+fn counted(count: u64, more: bool) -> u64 {
+    if more {
+        return draw::next(count);
+    }
+    count
+}
