@@ -2,7 +2,6 @@
 use Prim.Native.Nat.{ℕ, _+_, _≤_, _<_}
 use mathlib.Core.Path.{_≡_, refl, sym, ap, _∙_}
 use mathlib.Core.List.{List}
-use mathlib.Core.Logic.{_⊎_, inl, inr}
 use native.Mathlib.Omega.{arith}
 use lib.ListN.{length}
 use lib.Seq.{ext-getD}
@@ -11,16 +10,15 @@ use Rattle.day.specs.declared.Day.{Day}
 use Rattle.day.specs.Windows.{Windows, at, windows}
 use Rattle.day.specs.Number.{Numbered}
 use Rattle.day.specs.Numbering.{Numbering}
-use Rattle.day.specs.Gap.{cost}
 use Rattle.day.specs.Answer.{says, done, no-plan}
-use Rattle.day.specs.Refusal.{_then_, stops, goes-on}
+use Rattle.day.specs.Refusal.{goes-on}
 use Rattle.day.specs.Check.{most-slots, Accepted}
 use Rattle.day.specs.Zero.{zeroed}
 use Rattle.day.proofs.Cases.{give, on-le}
 use Rattle.day.proofs.Bound.{cost-at-most-slots}
 use Rattle.day.proofs.Check.{good-rows-deadlines}
 use Rattle.day.proofs.Zero.{zeroed-length, zeroed-below, zeroed-beyond}
-use Rattle.rule.specs.Span.{Problem, value, read-back}
+use Rattle.rule.specs.Span.{Problem}
 use Rattle.rule.specs.Whole.{problem, whole, whole-back, without-ends, ByNumber, Ready}
 use Rattle.day.proofs.Number.{numbered-apart}
 use Rattle.rule.proofs.Value.{Agree, value-agree, read-back-agree}
@@ -31,7 +29,7 @@ use Rattle.planner.specs.Jobs.{none, jobs, by-number, Lowest, Prepared}
 use Rattle.planner.specs.Level.{Filled}
 use Rattle.planner.specs.ReadBack.{Readable, ReadBack}
 use Rattle.planner.specs.Finished.{Laid, whole-value, whole-plan, Finished}
-use Rattle.planner.specs.Promise.{Verdict, costs, none-proper, BestIn, Planned, Never}
+use Rattle.planner.specs.Promise.{costs, none-proper, Planned, Never}
 use Rattle.planner.proofs.Promise.{never-clear}
 
 -- a list that the checks accept is one for the rule

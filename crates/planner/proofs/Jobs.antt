@@ -1,8 +1,7 @@
 -- The laws of the jobs in number order: fewer jobs are prepared too, the marks of the lowest numbers tell which points are clear, and
 -- values fit. Assumes nothing.
 use Prim.Native.Nat.{ℕ, _+_, _-_, _≤_, _<_}
-use mathlib.Core.Path.{_≡_, refl, sym, _∙_}
-use mathlib.Core.Bool.{Bool, true, false}
+use mathlib.Core.Path.{refl}
 use mathlib.Core.List.{List}
 use native.Mathlib.Omega.{arith}
 use lib.ListN.{length, set, length-set}
@@ -10,11 +9,11 @@ use lib.Seq.{getD-set-same, getD-set-other}
 use Rattle.day.specs.declared.Day.{Day}
 use Rattle.day.specs.Windows.{at}
 use Rattle.day.specs.Far.{far-price}
-use Rattle.day.proofs.Cases.{on-eq, on-le}
+use Rattle.day.proofs.Cases.{on-eq}
 use Rattle.day.proofs.Gap.{price-at-most-wake}
 use Rattle.day.proofs.Far.{far-price-start, far-price-end, far-price-inside}
-use Rattle.rule.specs.Span.{Problem, value}
-use Rattle.rule.proofs.Value.{Clear, MaySplit, value-bounded}
+use Rattle.rule.specs.Span.{value}
+use Rattle.rule.proofs.Value.{MaySplit, value-bounded}
 use Rattle.planner.specs.Jobs.{none, jobs, Lowest, Prepared}
 
 module _ (rel : List ℕ) (n : ℕ) where

@@ -9,7 +9,7 @@ use Rattle.day.specs.Windows.{at}
 use Rattle.day.proofs.Cases.{on-eq}
 use Rattle.rule.specs.Span.{Problem, value}
 use Rattle.rule.proofs.Value.{In, value-zero, value-out}
-use Rattle.planner.specs.Table.{Span, row, place, need}
+use Rattle.planner.specs.Table.{Span, row, place}
 use Rattle.planner.specs.Written.{Written, after, along, Apart}
 use Rattle.planner.specs.Level.{Level, Rows, Filled}
 use Rattle.planner.proofs.Table.{place-below, place-same, need-more}

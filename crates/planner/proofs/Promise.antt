@@ -1,15 +1,13 @@
 -- The laws of the promise: what a refusal and a plan without checks give, and that two outcomes are equal. Assumes nothing.
-use Prim.Native.Nat.{ℕ, _≤_, _<_}
+use Prim.Native.Nat.{ℕ}
 use mathlib.Core.Path.{_≡_, refl, sym, ap, _∙_}
 use mathlib.Core.List.{List}
 use mathlib.Core.Logic.{_⊎_, inl, inr, ⊎-elim}
 use native.Mathlib.Omega.{arith}
-use lib.ListN.{length}
 use lib.Seq.{ext-getD}
 use Rattle.day.specs.declared.Answer.{Answer}
 use Rattle.day.specs.declared.Day.{Day}
 use Rattle.day.specs.Windows.{Windows, at}
-use Rattle.day.specs.Best.{Best}
 use Rattle.day.specs.Answer.{says, done, no-plan}
 use Rattle.day.specs.Refusal.{_then_, stops, goes-on, Passed}
 use Rattle.day.specs.Check.{ListCheck}
@@ -18,7 +16,7 @@ use Rattle.day.proofs.Refusal.{IsCheck, then-unique, then-next, then-is-check, 
 use Rattle.day.proofs.Check.{list-is-check}
 use Rattle.day.proofs.Best.{best-costs, best-unique}
 use Rattle.planner.specs.Table.{need}
-use Rattle.planner.specs.Promise.{Verdict, costs, none-proper, BestIn, Planned, Never, PlanCheck}
+use Rattle.planner.specs.Promise.{Verdict, costs, none-proper, BestIn, Planned, Never, PlanCheck, PlanPromise}
 
 verdict-unique : (day : Day) (w : Windows) (a b : Answer) → Verdict day w a → Verdict day w b → a ≡ b
 verdict-unique day w a b (costs p P e) (costs q Q f) = e ∙ ap (λ (c : ℕ). says done c 0) (best-costs day w p q P Q) ∙ sym f
@@ -89,9 +87,7 @@ plan-is-check day w starts table =
     then-is-check list-is-check (then-is-check (refuses-is-check (λ e. omega arith)) (refuses-is-check (λ e. omega arith)))
 
 pub plan-unique : (day : Day) (w : Windows) (starts table : List ℕ) (a b : Answer) (p t q u : List ℕ)
-    → Planned (PlanCheck day w starts table) (need (day .slots) (w .count)) day w starts table a p t
-    → Planned (PlanCheck day w starts table) (need (day .slots) (w .count)) day w starts table b q u
-    → (a ≡ b) × (p ≡ q) × (t ≡ u)
+    → PlanPromise day w starts table a p t → PlanPromise day w starts table b q u → (a ≡ b) × (p ≡ q) × (t ≡ u)
 plan-unique day w starts table =
     planned-unique (PlanCheck day w starts table) (need (day .slots) (w .count)) day w starts table
     (plan-is-check day w starts table)

@@ -1,6 +1,6 @@
 -- The laws of reading back: a job that isn't released in the span is passed over, one that is splits it. Assumes nothing.
 use Prim.Native.Nat.{ℕ, suc, _+_, _-_, _≤_, _<_}
-use mathlib.Core.Path.{_≡_, refl, sym, ap, _∙_}
+use mathlib.Core.Path.{_≡_, refl, sym, _∙_}
 use mathlib.Core.List.{List}
 use native.Mathlib.Numerals.{add-one}
 use native.Mathlib.Omega.{arith}
@@ -9,12 +9,11 @@ use lib.Seq.{getD-set-same, getD-set-other}
 use Rattle.day.specs.declared.Day.{Day}
 use Rattle.day.specs.Windows.{at}
 use Rattle.day.proofs.Cases.{on-eq, on-le, give}
-use Rattle.rule.specs.Span.{Problem, value, split, read-back}
+use Rattle.rule.specs.Span.{Problem, value, split}
 use Rattle.rule.proofs.Value.{In, value-out, sides-is, LatestBest, split-found, read-back-out, read-back-last, read-back-left, read-back-right}
-use Rattle.planner.specs.Table.{Span, need}
-use Rattle.planner.specs.Jobs.{none, jobs, Prepared}
-use Rattle.planner.specs.Level.{Level}
-use Rattle.planner.specs.ReadBack.{Readable, Among, ReadBack}
+use Rattle.planner.specs.Table.{Span}
+use Rattle.planner.specs.Jobs.{none, jobs}
+use Rattle.planner.specs.ReadBack.{Readable, ReadBack}
 use Rattle.planner.proofs.Table.{need-more}
 use Rattle.planner.proofs.Jobs.{prepared-fewer}
 

@@ -1,11 +1,10 @@
 -- The laws of `Written`: nothing is written at first, a store writes one place more, and runs join. Assumes nothing.
 use Prim.Native.Nat.{ℕ, _+_, _≤_, _<_}
-use mathlib.Core.Path.{_≡_, refl, sym, ap, _∙_}
+use mathlib.Core.Path.{_≡_, refl, _∙_}
 use mathlib.Core.List.{List}
 use native.Mathlib.Omega.{arith}
 use lib.ListN.{length, set, length-set}
 use lib.Seq.{getD-set-same, getD-set-other}
-use Rattle.day.specs.Windows.{at}
 use Rattle.day.proofs.Cases.{on-le, on-eq}
 use Rattle.planner.specs.Written.{Written}
 

@@ -44,3 +44,7 @@ PlanCheck day w starts table =
     ListCheck day w
     then Refuses few-starts (length starts < w .count)
     then Refuses short-table (length table < need (day .slots) (w .count))
+
+-- what `plan` promises
+abbrev pub PlanPromise : Day → Windows → List ℕ → List ℕ → Answer → List ℕ → List ℕ → Type 0
+PlanPromise day w starts table = Planned (PlanCheck day w starts table) (need (day .slots) (w .count)) day w starts table

@@ -13,7 +13,7 @@ ghost use Rattle.rule.specs.Whole.{without-ends};
 ghost use Rattle.planner.specs.Table.{need};
 ghost use Rattle.planner.specs.Jobs.{Prepared};
 ghost use Rattle.planner.specs.Finished.{Finished};
-ghost use Rattle.planner.specs.Promise.{Never, PlanCheck, Planned};
+ghost use Rattle.planner.specs.Promise.{Never, Planned, PlanPromise};
 use day::Answer;
 use day::Day;
 use day::code;
@@ -115,7 +115,7 @@ pub fn plan(
     starts: &mut [u16],
     table: &mut [u16],
 ) -> Answer
-    ensures { λ a. ⌜ Planned (PlanCheck day (windows (now (releases .entry)) (now (deadlines .entry))) (now (starts .entry)) (now (table .entry))) (need (day .slots) (length (now (releases .entry)))) day (windows (now (releases .entry)) (now (deadlines .entry))) (now (starts .entry)) (now (table .entry)) a (now (starts .exit)) (now (table .exit)) ⌝ }
+    ensures { λ a. ⌜ PlanPromise day (windows (now (releases .entry)) (now (deadlines .entry))) (now (starts .entry)) (now (table .entry)) a (now (starts .exit)) (now (table .exit)) ⌝ }
 {
     let checked = day::check_list(day, releases, deadlines);
     if checked.code != code::DONE {

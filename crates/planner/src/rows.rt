@@ -1,6 +1,6 @@
 // The work table: where a row begins, how many places are needed, and copying from row to row.
 ghost use mathlib.Core.Path.{_≡_};
-ghost use Prim.Native.Nat.{ℕ, _+_, _<_, _≤_};
+ghost use Prim.Native.Nat.{_+_, _<_, _≤_};
 ghost use lib.ListN.{length};
 ghost use Rattle.day.specs.Windows.{at};
 ghost use Rattle.planner.specs.Table.{Span, row, place, need};

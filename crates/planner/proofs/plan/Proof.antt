@@ -1,6 +1,5 @@
 -- `planner::plan` meets its contract: each check that refuses answers, and what they accept is planned. Assumes nothing.
-use Prim.Native.Nat.{_≤_, _<_}
-use mathlib.Core.Path.{_≡_, ap}
+use mathlib.Core.Path.{ap}
 use native.Mathlib.Omega.{arith}
 use lib.ListN.{length, length-take, length-replicate}
 use denote.Ref.{now}

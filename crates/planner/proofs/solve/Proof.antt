@@ -1,5 +1,5 @@
 -- `planner::solve` meets its contract: rows are put into number order, and what that gives is finished with. Assumes nothing.
-use Prim.Native.Nat.{ℕ, _+_, _≤_, _<_}
+use Prim.Native.Nat.{ℕ}
 use mathlib.Core.Path.{_≡_, ap, _∙_}
 use native.Mathlib.Omega.{arith}
 use lib.ListN.{length, getD-replicate}

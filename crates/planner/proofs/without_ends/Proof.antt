@@ -1,5 +1,5 @@
 -- `planner::without_ends` meets its contract: with no jobs nothing comes off. Assumes nothing.
-use mathlib.Core.Path.{_≡_, sym}
+use mathlib.Core.Path.{sym}
 use native.Mathlib.Omega.{arith}
 use Rattle.rule.proofs.Ends.{without-ends-none, without-ends-some}
 use borrow.Author.Needs.{needs}

@@ -1,5 +1,5 @@
 -- `planner::fill::far_price` meets its contract: one law of the far points for each return. Assumes nothing.
-use mathlib.Core.Path.{_≡_, sym, _∙_}
+use mathlib.Core.Path.{sym, _∙_}
 use native.Mathlib.Omega.{arith}
 use Rattle.day.proofs.Far.{far-price-start, far-price-end, far-price-inside}
 use borrow.Author.Needs.{needs}

@@ -1,8 +1,7 @@
 -- `planner::fill::fill_row` meets its contract: the places up to the job's release are copied, those after it are sums. Assumes nothing.
-use Prim.Native.Nat.{_+_, _≤_, _<_}
-use mathlib.Core.Path.{_≡_, _∙_}
+use Prim.Native.Nat.{_+_}
 use native.Mathlib.Omega.{arith}
-use lib.ListN.{length, replicate, getD-replicate}
+use lib.ListN.{getD-replicate}
 use denote.Ref.{now}
 use Rattle.rule.specs.Span.{value}
 use Rattle.planner.specs.Table.{place}

@@ -1,5 +1,5 @@
 -- `planner::fill::lower` meets its contract: the sums of lo up to e are lowered. Assumes nothing.
-use Prim.Native.Nat.{_+_, _-_, _≤_, _<_}
+use Prim.Native.Nat.{_-_, _≤_}
 use mathlib.Core.Path.{_≡_}
 use native.Mathlib.Omega.{arith}
 use Rattle.planner.specs.Written.{Written, itself, lowered}

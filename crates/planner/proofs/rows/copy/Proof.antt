@@ -1,5 +1,5 @@
 -- `planner::rows::copy` meets its contract: the places of lo up to e are copied. Assumes nothing.
-use Prim.Native.Nat.{_+_, _-_, _≤_, _<_}
+use Prim.Native.Nat.{_+_, _-_, _≤_}
 use mathlib.Core.Path.{_≡_}
 use native.Mathlib.Omega.{arith}
 use Rattle.planner.specs.Written.{Written, after, along}

@@ -1,5 +1,5 @@
 -- `planner::rows::store` meets its contract: the places of lo up to e are stored. Assumes nothing.
-use Prim.Native.Nat.{_+_, _-_, _≤_, _<_}
+use Prim.Native.Nat.{_-_, _≤_}
 use mathlib.Core.Path.{_≡_, refl}
 use native.Mathlib.Omega.{arith}
 use Rattle.day.specs.Windows.{at}
