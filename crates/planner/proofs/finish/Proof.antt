@@ -39,11 +39,17 @@ returns : tie.Need-returns
 returns c =
     let a = c .before .before .before .before .before .before .before .before .before .before .before .before .before .before .before .before .before .before .before .before .args in
     let end : c .before .before .before .before .before .before .before .before .before .before .before .before .before .wide .result + 2 ≡ a .day .slots + 2 = omega arith in
-    let v = whole-read (a .day) (now (a .rel)) (now (a .dead)) (length (now (a .order))) _ end (now (a .table)) _ (c .before .before .before .before .before .before .before .before .before .before .fill .ensures) (c .before .before .before .before .before .before .value-at .result) (c .before .before .before .before .before .before .value-at .ensures) in
+    let v = whole-read (a .day) (now (a .rel)) (now (a .dead)) (length (now (a .order))) _ end (now (a .table)) _
+    (c .before .before .before .before .before .before .before .before .before .before .fill .ensures)
+    (c .before .before .before .before .before .before .value-at .result)
+    (c .before .before .before .before .before .before .value-at .ensures) in
     record {
       found = λ h. absurd (omega arith);
       not-found = λ h. (c .of .ensures, refl);
-      cleared = whole-cleared (a .day) (now (a .rel)) (now (a .dead)) (length (now (a .order))) _ end (now (a .table)) _ (c .before .before .before .before .before .before .before .before .before .before .fill .ensures) _ _ (c .before .before .before .before .before .before .before .before .before .before .before .before .need-of .ensures) (c .before .before .before .zero-first .ensures);
+      cleared = whole-cleared (a .day) (now (a .rel)) (now (a .dead)) (length (now (a .order))) _ end (now (a .table)) _
+          (c .before .before .before .before .before .before .before .before .before .before .fill .ensures) _ _
+          (c .before .before .before .before .before .before .before .before .before .before .before .before .need-of .ensures)
+          (c .before .before .before .zero-first .ensures);
     }
 
 slice-aggregate-read-back : tie.Need-slice-aggregate-read-back
@@ -51,10 +57,18 @@ slice-aggregate-read-back c = search needs
 
 read-back-requires : tie.Need-read-back-requires
 read-back-requires c κs =
-    let a = c .before .before .before .before .before .before .before .before .before .before .before .before .before .before .before .before .before .args in
+    let start =
+    c .before .before .before .before .before .before .before .before .before .before .before .before .before .before .before .before .before in
+    let a = start .args in
     let end : c .before .before .before .before .before .before .before .before .before .before .wide .result + 2 ≡ a .day .slots + 2 = omega arith in
-    let v = whole-read (a .day) (now (a .rel)) (now (a .dead)) (length (now (a .order))) _ end (now (a .table)) _ (c .before .before .before .before .before .before .before .fill .ensures) (c .before .before .before .value-at .result) (c .before .before .before .value-at .ensures) in
-    (whole-readable (a .day) (now (a .rel)) (now (a .dead)) (length (now (a .order))) _ end (now (a .table)) _ (c .before .before .before .before .before .before .before .fill .ensures) (now (a .lowest)) (c .before .before .before .before .before .before .before .before .before .before .before .before .before .before .before .before .before .pre .0) (c .before .before .before .before .before .before .before .before .before .before .before .before .before .before .before .before .before .pre .1 .0) (omega arith), omega (arith, c .before .before .before .before .before .before .before .before .before .before .before .before .before .before .before .before .before .pre .0 .few))
+    let v = whole-read (a .day) (now (a .rel)) (now (a .dead)) (length (now (a .order))) _ end (now (a .table)) _
+    (c .before .before .before .before .before .before .before .fill .ensures) (c .before .before .before .value-at .result)
+    (c .before .before .before .value-at .ensures) in (
+      whole-readable (a .day) (now (a .rel)) (now (a .dead)) (length (now (a .order))) _ end (now (a .table)) _
+          (c .before .before .before .before .before .before .before .fill .ensures) (now (a .lowest)) (start .pre .0)
+          (start .pre .1 .0) (omega arith),
+      omega (arith, start .pre .0 .few),
+    )
 
 slice-aggregate-write-out : tie.Need-slice-aggregate-write-out
 slice-aggregate-write-out c = search needs
@@ -66,7 +80,10 @@ zero-first-requires-2 : tie.Need-zero-first-requires-2
 zero-first-requires-2 c κs = search needs
 
 without-ends-requires : tie.Need-without-ends-requires
-without-ends-requires c κs = omega (arith, c .before .before .before .before .before .before .before .before .before .before .before .before .before .before .before .before .before .before .before .before .before .before .before .before .before .before .before .before .pre .0 .wake)
+without-ends-requires c κs = omega (
+  arith,
+  c .before .before .before .before .before .before .before .before .before .before .before .before .before .before .before .before .before .before .before .before .before .before .before .before .before .before .before .before .pre .0 .wake,
+)
 
 same-length-2 : tie.Need-same-length-2
 same-length-2 c = search needs
@@ -76,17 +93,28 @@ same-length-3 c = search needs
 
 returns-2 : tie.Need-returns-2
 returns-2 c =
-    let a = c .before .before .before .before .before .before .before .before .before .before .before .before .before .before .before .before .before .before .before .before .before .before .before .before .before .before .before .before .before .args in
+    let start =
+    c .before .before .before .before .before .before .before .before .before .before .before .before .before .before .before .before .before .before .before .before .before .before .before .before .before .before .before .before .before in
+    let a = start .args in
     let n = length (now (a .order)) in
     let end : c .before .before .before .before .before .before .before .before .before .before .before .before .before .before .before .before .before .before .before .before .before .before .wide .result + 2 ≡ a .day .slots + 2 = omega (arith, c .before .before .before .before .before .before .before .before .before .before .before .before .before .before .before .before .before .before .before .before .before .before .wide .ensures) in
-    let v = whole-read (a .day) (now (a .rel)) (now (a .dead)) n _ end (now (a .table)) _ (c .before .before .before .before .before .before .before .before .before .before .before .before .before .before .before .before .before .before .before .fill .ensures) (c .before .before .before .before .before .before .before .before .before .before .before .before .before .before .before .value-at .result) (c .before .before .before .before .before .before .before .before .before .before .before .before .before .before .before .value-at .ensures) in
+    let v = whole-read (a .day) (now (a .rel)) (now (a .dead)) n _ end (now (a .table)) _
+    (c .before .before .before .before .before .before .before .before .before .before .before .before .before .before .before .before .before .before .before .fill .ensures) (c .before .before .before .before .before .before .before .before .before .before .before .before .before .before .before .value-at .result) (c .before .before .before .before .before .before .before .before .before .before .before .before .before .before .before .value-at .ensures) in
     record {
       found = λ h. (
         ap (λ (x : ℕ). says done x 0) (c .without-ends .ensures ∙ ap (without-ends (a .day) n) v),
-        laid-of (a .day) (now (a .rel)) (now (a .dead)) (now (a .lowest)) (now (a .order)) _ _ (now (a .starts)) _ n _ end (c .before .before .before .before .before .before .before .before .before .before .before .before .before .before .before .before .before .before .before .before .before .before .before .before .before .before .before .before .before .pre .0) (c .before .before .before .before .before .before .before .before .before .before .before .read-back .ensures) (c .before .before .before .before .before .before .before .write-out .ensures),
+        laid-of (a .day) (now (a .rel)) (now (a .dead)) (now (a .lowest)) (now (a .order)) _ _ (now (a .starts)) _ n _ end
+            (start .pre .0)
+            (c .before .before .before .before .before .before .before .before .before .before .before .read-back .ensures)
+            (c .before .before .before .before .before .before .before .write-out .ensures),
       );
-      not-found = λ h. absurd (omega (arith, c .before .before .before .before .before .before .before .before .before .before .before .before .before .before .if1 .left));
-      cleared = whole-cleared (a .day) (now (a .rel)) (now (a .dead)) n _ end (now (a .table)) _ (c .before .before .before .before .before .before .before .before .before .before .before .before .before .before .before .before .before .before .before .fill .ensures) _ _ (c .before .before .before .before .before .before .before .before .before .before .before .before .before .before .before .before .before .before .before .before .before .need-of .ensures) (c .before .before .before .zero-first2 .ensures);
+      not-found = λ h. absurd
+          (omega (
+            arith,
+            c .before .before .before .before .before .before .before .before .before .before .before .before .before .before .if1 .left,
+          ));
+      cleared = whole-cleared (a .day) (now (a .rel)) (now (a .dead)) n _ end (now (a .table)) _
+          (c .before .before .before .before .before .before .before .before .before .before .before .before .before .before .before .before .before .before .before .fill .ensures) _ _ (c .before .before .before .before .before .before .before .before .before .before .before .before .before .before .before .before .before .before .before .before .before .need-of .ensures) (c .before .before .before .zero-first2 .ensures);
     }
 
 pub finish-spec : {M : Type 1} → statement M

@@ -23,14 +23,16 @@ returns c =
     let a = c .before .before .before .before .before .before .before .args in
     let w = windows (now (a .releases)) (now (a .deadlines)) in
     let refused = c .before .before .check-list .ensures in
-    planned-refused (PlanCheck (a .day) w (now (a .starts)) (now (a .table))) (need (a .day .slots) (length (now (a .releases)))) (a .day) w (now (a .starts)) (now (a .table)) (c .before .before .check-list .result)
+    planned-refused (PlanCheck (a .day) w (now (a .starts)) (now (a .table))) (need (a .day .slots) (length (now (a .releases))))
+    (a .day) w (now (a .starts)) (now (a .table)) (c .before .before .check-list .result)
     (then-group _ (then-refused _ refused (c .if1 .taken))) (c .if1 .taken) (list-not-no-plan (a .day) w _ refused)
 
 need-of-requires : tie.Need-need-of-requires
 need-of-requires c κs =
     let a = c .before .before .before .before .before .before .before .args in
     let w = windows (now (a .releases)) (now (a .deadlines)) in
-    let clear = passed-clear {Check = ListCheck (a .day) w} list-is-check (c .before .before .check-list .result) (c .before .before .check-list .ensures) (c .if1 .left) in
+    let clear = passed-clear {Check = ListCheck (a .day) w} list-is-check (c .before .before .check-list .result)
+    (c .before .before .check-list .ensures) (c .if1 .left) in
     omega (arith, clear-accepted clear .rows .count)
 
 of-requires : tie.Need-of-requires
@@ -40,8 +42,11 @@ returns-2 : tie.Need-returns-2
 returns-2 c =
     let a = c .before .before .before .before .before .before .before .before .before .before .args in
     let w = windows (now (a .releases)) (now (a .deadlines)) in
-    let clear = passed-clear {Check = ListCheck (a .day) w} list-is-check (c .before .before .before .before .before .check-list .result) (c .before .before .before .before .before .check-list .ensures) (c .before .before .before .if1 .left) in
-    planned-refused (PlanCheck (a .day) w (now (a .starts)) (now (a .table))) (need (a .day .slots) (length (now (a .releases)))) (a .day) w (now (a .starts)) (now (a .table)) (c .of .result)
+    let clear = passed-clear {Check = ListCheck (a .day) w} list-is-check
+    (c .before .before .before .before .before .check-list .result)
+    (c .before .before .before .before .before .check-list .ensures) (c .before .before .before .if1 .left) in
+    planned-refused (PlanCheck (a .day) w (now (a .starts)) (now (a .table))) (need (a .day .slots) (length (now (a .releases))))
+    (a .day) w (now (a .starts)) (now (a .table)) (c .of .result)
     (stops (goes-on clear (stops (record { fault = omega arith; says = c .of .ensures }))))
     (λ e. omega (arith, ap code-of (c .of .ensures))) (λ e. omega (arith, ap code-of (c .of .ensures)))
 
@@ -52,8 +57,11 @@ returns-3 : tie.Need-returns-3
 returns-3 c =
     let a = c .before .before .before .before .before .before .before .before .before .before .before .args in
     let w = windows (now (a .releases)) (now (a .deadlines)) in
-    let clear = passed-clear {Check = ListCheck (a .day) w} list-is-check (c .before .before .before .before .before .before .check-list .result) (c .before .before .before .before .before .before .check-list .ensures) (c .before .before .before .before .if1 .left) in
-    planned-refused (PlanCheck (a .day) w (now (a .starts)) (now (a .table))) (need (a .day .slots) (length (now (a .releases)))) (a .day) w (now (a .starts)) (now (a .table)) (c .of2 .result)
+    let clear = passed-clear {Check = ListCheck (a .day) w} list-is-check
+    (c .before .before .before .before .before .before .check-list .result)
+    (c .before .before .before .before .before .before .check-list .ensures) (c .before .before .before .before .if1 .left) in
+    planned-refused (PlanCheck (a .day) w (now (a .starts)) (now (a .table))) (need (a .day .slots) (length (now (a .releases))))
+    (a .day) w (now (a .starts)) (now (a .table)) (c .of2 .result)
     (stops (goes-on clear (goes-on (λ b r. omega (arith, r .fault)) (record { fault = omega arith; says = c .of2 .ensures }))))
     (λ e. omega (arith, ap code-of (c .of2 .ensures))) (λ e. omega (arith, ap code-of (c .of2 .ensures)))
 
@@ -61,21 +69,28 @@ array-borrow-prefix-order : tie.Need-array-borrow-prefix-order
 array-borrow-prefix-order c =
     let a = c .before .before .before .before .before .before .before .before .before .before .args in
     let w = windows (now (a .releases)) (now (a .deadlines)) in
-    let clear = passed-clear {Check = ListCheck (a .day) w} list-is-check (c .before .before .before .before .before .check-list .result) (c .before .before .before .before .before .check-list .ensures) (c .before .before .before .if1 .left) in
+    let clear = passed-clear {Check = ListCheck (a .day) w} list-is-check
+    (c .before .before .before .before .before .check-list .result)
+    (c .before .before .before .before .before .check-list .ensures) (c .before .before .before .if1 .left) in
     clear-accepted clear .rows .count
 
 slice-aggregate-solve : tie.Need-slice-aggregate-solve
 slice-aggregate-solve c =
     let a = c .before .before .before .before .before .before .before .before .before .before .before .args in
     let w = windows (now (a .releases)) (now (a .deadlines)) in
-    let clear = passed-clear {Check = ListCheck (a .day) w} list-is-check (c .before .before .before .before .before .before .check-list .result) (c .before .before .before .before .before .before .check-list .ensures) (c .before .before .before .before .if1 .left) in
+    let clear = passed-clear {Check = ListCheck (a .day) w} list-is-check
+    (c .before .before .before .before .before .before .check-list .result)
+    (c .before .before .before .before .before .before .check-list .ensures) (c .before .before .before .before .if1 .left) in
     simp (length-take, length-replicate) (omega (arith, clear-accepted clear .rows .count))
 
 solve-requires : tie.Need-solve-requires
 solve-requires c κs =
     let a = c .before .before .before .before .before .before .before .before .before .before .before .before .before .args in
     let w = windows (now (a .releases)) (now (a .deadlines)) in
-    let clear = passed-clear {Check = ListCheck (a .day) w} list-is-check (c .before .before .before .before .before .before .before .before .check-list .result) (c .before .before .before .before .before .before .before .before .check-list .ensures) (c .before .before .before .before .before .before .if1 .left) in
+    let clear = passed-clear {Check = ListCheck (a .day) w} list-is-check
+    (c .before .before .before .before .before .before .before .before .check-list .result)
+    (c .before .before .before .before .before .before .before .before .check-list .ensures)
+    (c .before .before .before .before .before .before .if1 .left) in
     let accepted = clear-accepted clear in
     (accepted, ((simp (length-take, length-replicate) (omega (arith, accepted .rows .count)), omega arith), omega arith))
 
@@ -89,9 +104,12 @@ returns-4 : tie.Need-returns-4
 returns-4 c =
     let a = c .before .before .before .before .before .before .before .before .before .before .before .before .before .before .before .before .before .before .before .args in
     let w = windows (now (a .releases)) (now (a .deadlines)) in
-    let clear = passed-clear {Check = ListCheck (a .day) w} list-is-check (c .before .before .before .before .before .before .before .before .before .before .before .before .before .before .check-list .result) (c .before .before .before .before .before .before .before .before .before .before .before .before .before .before .check-list .ensures) (c .before .before .before .before .before .before .before .before .before .before .before .before .if1 .left) in
-    planned-checked (PlanCheck (a .day) w (now (a .starts)) (now (a .table))) (need (a .day .slots) (length (now (a .releases)))) (a .day) w (now (a .starts)) (now (a .table)) _ _ _
-    (then-clear clear (then-clear (λ b r. omega (arith, r .fault)) (λ b r. omega (arith, r .fault)))) (c .before .before .before .before .before .solve .ensures)
+    let clear = passed-clear {Check = ListCheck (a .day) w} list-is-check
+    (c .before .before .before .before .before .before .before .before .before .before .before .before .before .before .check-list .result) (c .before .before .before .before .before .before .before .before .before .before .before .before .before .before .check-list .ensures) (c .before .before .before .before .before .before .before .before .before .before .before .before .if1 .left) in
+    planned-checked (PlanCheck (a .day) w (now (a .starts)) (now (a .table))) (need (a .day .slots) (length (now (a .releases))))
+    (a .day) w (now (a .starts)) (now (a .table)) _ _ _
+    (then-clear clear (then-clear (λ b r. omega (arith, r .fault)) (λ b r. omega (arith, r .fault))))
+    (c .before .before .before .before .before .solve .ensures)
 
 pub plan-spec : {M : Type 1} → statement M
 plan-spec =

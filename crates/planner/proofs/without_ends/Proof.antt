@@ -13,10 +13,18 @@ add-ends : tie.Need-add-ends
 add-ends c = search needs
 
 returns-2 : tie.Need-returns-2
-returns-2 c = omega (arith, without-ends-some (c .before .before .before .args .day) (c .before .before .before .args .count) (c .before .before .before .args .value) (omega arith))
+returns-2 c = omega (
+  arith,
+  without-ends-some (c .before .before .before .args .day) (c .before .before .before .args .count)
+      (c .before .before .before .args .value) (omega arith),
+)
 
 returns-3 : tie.Need-returns-3
-returns-3 c = omega (arith, without-ends-some (c .before .before .before .args .day) (c .before .before .before .args .count) (c .before .before .before .args .value) (omega arith))
+returns-3 c = omega (
+  arith,
+  without-ends-some (c .before .before .before .args .day) (c .before .before .before .args .count)
+      (c .before .before .before .args .value) (omega arith),
+)
 
 pub without-ends-spec : {M : Type 1} → statement M
 without-ends-spec = tie.close (tie.spec returns add-ends returns-2 returns-3)

@@ -66,10 +66,11 @@ read-back-split-of-requires : (t : ℕ) → read-back-lts.Need-split-of-requires
   read-back.Post,
 ) (read-back-at t) read-back.Post
 read-back-split-of-requires t c κs =
-    let a = c .before .before .before .before .before .before .before .before .args in
+    let start = c .before .before .before .before .before .before .before .before in
+    let a = start .args in
     let whole : a .count - 1 + 1 ≡ a .count = omega arith in
     let i = c .before .inside .ensures .yes (c .if2 .taken) in
-    (rw whole (c .before .before .before .before .before .before .before .before .pre .1 .0), i)
+    (rw whole (start .pre .1 .0), i)
 
 read-back-sub-starts : (t : ℕ) → read-back-lts.Need-sub-starts (
   inside-reads.Asked,
@@ -80,8 +81,9 @@ read-back-sub-starts : (t : ℕ) → read-back-lts.Need-sub-starts (
   read-back.Post,
 ) (read-back-at t) read-back.Post
 read-back-sub-starts t c =
-    let a = c .before .before .before .before .before .before .before .before .before .args in
-    let r = c .before .before .before .before .before .before .before .before .before .pre .1 .0 in
+    let start = c .before .before .before .before .before .before .before .before .before in
+    let a = start .args in
+    let r = start .pre .1 .0 in
     let i = c .before .before .inside .ensures .yes (c .before .if2 .taken) in
     let best = readable-split r (a .count - 1) (omega arith) i in
     omega (arith, r .prepared .after-far (a .count - 1) (omega arith), best .may .low)
@@ -95,8 +97,9 @@ read-back-cast-starts : (t : ℕ) → read-back-lts.Need-cast-starts (
   read-back.Post,
 ) (read-back-at t) read-back.Post
 read-back-cast-starts t c =
-    let a = c .before .before .before .before .before .before .before .before .before .args in
-    let r = c .before .before .before .before .before .before .before .before .before .pre .1 .0 in
+    let start = c .before .before .before .before .before .before .before .before .before in
+    let a = start .args in
+    let r = start .pre .1 .0 in
     let i = c .before .before .inside .ensures .yes (c .before .if2 .taken) in
     let best = readable-split r (a .count - 1) (omega arith) i in
     omega (arith, best .below, r .span, r .prepared .slots)
@@ -130,9 +133,16 @@ read-back-read-back-requires : (t : ℕ) → read-back-lts.Need-read-back-requir
   read-back.Post,
 ) (read-back-at t) read-back.Post
 read-back-read-back-requires t c κs =
-    let a = c .before .before .before .before .before .before .before .before .before .before .args in
-    let i = c .before .before .before .inside .ensures .yes (c .before .before .if2 .taken) in
-    (omega arith, (readable-left (c .before .before .before .before .before .before .before .before .before .before .pre .1 .0) (a .count - 1) (omega arith) i _ (c .before .split-of .ensures), simp length-set (omega arith)))
+    let start = c .before .before .before .before .before .before .before .before .before .before in
+    let a = start .args in
+    let i = c .before .before .before .inside .ensures .yes (c .before .before .if2 .taken) in (
+      omega arith,
+      (
+        readable-left (start .pre .1 .0) (a .count - 1) (omega arith) i _ (c .before .split-of .ensures),
+        simp length-set
+            (omega arith),
+      ),
+    )
 
 read-back-add-read-back : (t : ℕ) → read-back-lts.Need-add-read-back (
   inside-reads.Asked,
@@ -143,9 +153,11 @@ read-back-add-read-back : (t : ℕ) → read-back-lts.Need-add-read-back (
   read-back.Post,
 ) (read-back-at t) read-back.Post
 read-back-add-read-back t c =
-    let a = c .before .before .before .before .before .before .before .before .before .before .before .before .before .args in
-    let i = c .before .before .before .before .before .before .inside .ensures .yes (c .before .before .before .before .before .if2 .taken) in
-    let best = readable-split (c .before .before .before .before .before .before .before .before .before .before .before .before .before .pre .1 .0) (a .count - 1) (omega arith) i in
+    let start = c .before .before .before .before .before .before .before .before .before .before .before .before .before in
+    let a = start .args in
+    let i = c .before .before .before .before .before .before .inside .ensures .yes
+    (c .before .before .before .before .before .if2 .taken) in
+    let best = readable-split (start .pre .1 .0) (a .count - 1) (omega arith) i in
     omega (arith, best .below)
 
 read-back-read-back-requires-2 : (t : ℕ) → read-back-lts.Need-read-back-requires-2 (
@@ -157,9 +169,18 @@ read-back-read-back-requires-2 : (t : ℕ) → read-back-lts.Need-read-back-requ
   read-back.Post,
 ) (read-back-at t) read-back.Post
 read-back-read-back-requires-2 t c κs =
-    let a = c .before .before .before .before .before .before .before .before .before .before .before .before .before .before .args in
-    let i = c .before .before .before .before .before .before .before .inside .ensures .yes (c .before .before .before .before .before .before .if2 .taken) in
-    (omega arith, (readable-right (c .before .before .before .before .before .before .before .before .before .before .before .before .before .before .pre .1 .0) (a .count - 1) (omega arith) i _ (c .before .before .before .before .before .split-of .ensures), omega (arith, simp length-set at (c .before .before .before .read-back .ensures .long))))
+    let start = c .before .before .before .before .before .before .before .before .before .before .before .before .before .before in
+    let a = start .args in
+    let i = c .before .before .before .before .before .before .before .inside .ensures .yes
+    (c .before .before .before .before .before .before .if2 .taken) in (
+      omega arith,
+      (
+        readable-right (start .pre .1 .0) (a .count - 1) (omega arith) i _
+            (c .before .before .before .before .before .split-of .ensures),
+        omega
+            (arith, simp length-set at (c .before .before .before .read-back .ensures .long)),
+      ),
+    )
 
 read-back-same-length : (t : ℕ) → read-back-lts.Need-same-length (
   inside-reads.Asked,
@@ -169,7 +190,8 @@ read-back-same-length : (t : ℕ) → read-back-lts.Need-same-length (
   read-back-below t,
   read-back.Post,
 ) (read-back-at t) read-back.Post
-read-back-same-length t c = c .before .before .read-back2 .ensures .long ∙ c .before .before .before .before .before .before .read-back .ensures .long ∙ simp length-set
+read-back-same-length t c = c .before .before .read-back2 .ensures .long ∙
+    c .before .before .before .before .before .before .read-back .ensures .long ∙ simp length-set
 
 read-back-returns-2 : (t : ℕ) → read-back-lts.Need-returns-2 (
   inside-reads.Asked,
@@ -182,10 +204,19 @@ read-back-returns-2 : (t : ℕ) → read-back-lts.Need-returns-2 (
 read-back-returns-2 t c =
     let a = c .before .before .before .before .before .before .before .before .before .before .before .before .before .before .before .before .before .args in
     let P = jobs (a .day) (now (a .rel)) (now (a .dead)) in
-    let i = c .before .before .before .before .before .before .before .before .before .before .inside .ensures .yes (c .before .before .before .before .before .before .before .before .before .if2 .taken) in
-    let best = readable-split (c .before .before .before .before .before .before .before .before .before .before .before .before .before .before .before .before .before .pre .1 .0) (a .count - 1) (omega arith) i in
-    back-split P (a .count) (a .count - 1) (a .from) (a .to) (c .before .before .before .before .before .before .before .before .split-of .result) _ _ _ (omega arith) (c .before .before .before .before .before .before .before .before .split-of .ensures) i best
-    (omega (arith, (c .before .before .before .before .before .before .before .before .before .before .before .before .before .before .before .before .before .pre .1 .0) .prepared .after-far (a .count - 1) (omega (arith, c .before .before .before .before .before .before .before .before .before .before .before .if1 .left)), best .may .low, c .before .before .before .before .before .before .before .before .split-of .ensures)) (omega (arith, c .before .before .before .before .before .before .before .before .before .before .before .before .before .before .before .before .before .pre .1 .1, c .before .before .before .before .before .before .before .before .before .before .before .if1 .left)) (c .before .before .before .before .before .before .read-back .ensures) (c .before .before .read-back2 .ensures)
+    let i = c .before .before .before .before .before .before .before .before .before .before .inside .ensures .yes
+    (c .before .before .before .before .before .before .before .before .before .if2 .taken) in
+    let best = readable-split
+    (c .before .before .before .before .before .before .before .before .before .before .before .before .before .before .before .before .before .pre .1 .0) (a .count - 1) (omega arith) i in
+    back-split P (a .count) (a .count - 1) (a .from) (a .to)
+    (c .before .before .before .before .before .before .before .before .split-of .result) _ _ _ (omega arith)
+    (c .before .before .before .before .before .before .before .before .split-of .ensures) i best
+    (omega (
+      arith,
+      (c .before .before .before .before .before .before .before .before .before .before .before .before .before .before .before .before .before .pre .1 .0) .prepared .after-far (a .count - 1) (omega (arith, c .before .before .before .before .before .before .before .before .before .before .before .if1 .left)),
+      best .may .low,
+      c .before .before .before .before .before .before .before .before .split-of .ensures,
+    )) (omega (arith, c .before .before .before .before .before .before .before .before .before .before .before .before .before .before .before .before .before .pre .1 .1, c .before .before .before .before .before .before .before .before .before .before .before .if1 .left)) (c .before .before .before .before .before .before .read-back .ensures) (c .before .before .read-back2 .ensures)
 
 read-back-read-back-requires-3 : (t : ℕ) → read-back-lts.Need-read-back-requires-3 (
   inside-reads.Asked,
@@ -196,10 +227,11 @@ read-back-read-back-requires-3 : (t : ℕ) → read-back-lts.Need-read-back-requ
   read-back.Post,
 ) (read-back-at t) read-back.Post
 read-back-read-back-requires-3 t c κs =
-    let a = c .before .before .before .before .before .before .before .before .before .args in (
+    let start = c .before .before .before .before .before .before .before .before .before in
+    let a = start .args in (
       omega arith,
       (
-        readable-out (c .before .before .before .before .before .before .before .before .before .pre .1 .0) (a .count - 1) (omega arith)
+        readable-out (start .pre .1 .0) (a .count - 1) (omega arith)
             (c .before .before .inside .ensures .no (c .before .if2 .left)),
         omega arith,
       ),
@@ -227,7 +259,8 @@ read-back-returns-3 t c =
     let a = c .before .before .before .before .before .before .before .before .before .before .before .before .args in
     let P = jobs (a .day) (now (a .rel)) (now (a .dead)) in
     back-passed P (a .count) (a .count - 1) (a .from) (a .to) _ _ (omega arith)
-    (c .before .before .before .before .before .inside .ensures .no (c .before .before .before .before .if2 .left)) (c .before .before .read-back3 .ensures)
+    (c .before .before .before .before .before .inside .ensures .no (c .before .before .before .before .if2 .left))
+    (c .before .before .read-back3 .ensures)
 
 pub +read-back-spec : {M : Type 1} → statement M
 +read-back-spec = close μ-read-back λ t. read-back-lts.spec (

@@ -18,9 +18,10 @@ wide-requires c κs = search needs
 
 returns : tie.Need-returns
 returns c =
+    let start = c .before .before .before .before in
     record {
-      yes = λ h. (omega arith, omega (arith, ltb-true (c .before .wide .result) (c .before .before .before .before .args .to) h));
-      no = λ h i. omega (arith, ltb-false (c .before .wide .result) (c .before .before .before .before .args .to) h, i .1);
+      yes = λ h. (omega arith, omega (arith, ltb-true (c .before .wide .result) (start .args .to) h));
+      no = λ h i. omega (arith, ltb-false (c .before .wide .result) (start .args .to) h, i .1);
     }
 
 returns-2 : tie.Need-returns-2

@@ -14,7 +14,8 @@ use Rattle.planner.proofs.back.split_of.Statement.{statement}
 use Rattle.planner.proofs.back.split_of.Tie as tie
 
 abbrev Inv-loop : tie.InvT-loop
-Inv-loop day rel dead lowest table job from to end least₀ found₀ point₀ least found point = (at rel job ≤ point) × (point ≤ end) × (end ≤ day .slots + 1) × Searched (jobs day rel dead) job from to point least found
+Inv-loop day rel dead lowest table job from to end least₀ found₀ point₀ least found point = (at rel job ≤ point) × (point ≤ end) ×
+    (end ≤ day .slots + 1) × Searched (jobs day rel dead) job from to point least found
 
 abbrev μ-loop : tie.MeasureT-loop
 μ-loop day rel dead lowest table job from to end least₀ found₀ point₀ least found point = end - point
@@ -42,8 +43,9 @@ wide-requires-2 c κs = search needs
 
 loop-holds : tie.Need-loop-holds Inv-loop μ-loop
 loop-holds c =
-    let a = c .before .before .before .before .before .before .before .before .before .args in
-    let p = c .before .before .before .before .before .before .before .before .before .pre .0 .prepared in (
+    let start = c .before .before .before .before .before .before .before .before .before in
+    let a = start .args in
+    let p = start .pre .0 .prepared in (
       omega arith,
       omega (arith, p .window (a .job) (omega arith)),
       omega (arith, p .in-day (a .job) (omega arith)),
@@ -61,25 +63,44 @@ wide-requires-3 c κs = search needs
 
 value-at-requires : tie.Need-value-at-requires Inv-loop μ-loop
 value-at-requires c κs =
-    let a = c .before .before .before .before .before .before .before .before .before .before .before .before .before .before .args in
-    (omega arith, omega arith, (omega arith, omega arith), omega (arith, need-more (a .day .slots) (a .job) (a .job + 1) (omega arith)))
+    let a = c .before .before .before .before .before .before .before .before .before .before .before .before .before .before .args in (
+      omega arith,
+      omega arith,
+      (omega arith, omega arith),
+      omega
+          (arith, need-more (a .day .slots) (a .job) (a .job + 1) (omega arith)),
+    )
 
 add-value-at : tie.Need-add-value-at Inv-loop μ-loop
 add-value-at c = omega arith
 
 value-at-requires-2 : tie.Need-value-at-requires-2 Inv-loop μ-loop
 value-at-requires-2 c κs =
-    let a = c .before .before .before .before .before .before .before .before .before .before .before .before .before .before .before .args in
-    (omega arith, omega arith, (omega arith, omega arith), omega (arith, need-more (a .day .slots) (a .job) (a .job + 1) (omega arith)))
+    let a = c .before .before .before .before .before .before .before .before .before .before .before .before .before .before .before .args in (
+      omega arith,
+      omega arith,
+      (omega arith, omega arith),
+      omega
+          (arith, need-more (a .day .slots) (a .job) (a .job + 1) (omega arith)),
+    )
 
 add-sum : tie.Need-add-sum Inv-loop μ-loop
 add-sum c =
-    let a = c .before .before .before .before .before .before .before .before .before .before .before .before .before .before .before .before .args in
-    let r = c .before .before .before .before .before .before .before .before .before .before .before .before .before .before .before .before .pre .0 in
+    let start =
+    c .before .before .before .before .before .before .before .before .before .before .before .before .before .before .before .before in
+    let a = start .args in
+    let r = start .pre .0 in
     let point = c .before .before .before .before .before .before .loop .point in
     let level = r .levels (a .job) (omega arith) in
     let fits = values-fit (r .prepared) (a .job) in
-    omega (arith, level (a .from) point (omega arith, omega arith), fits (a .from) point, level (point + 1) (a .to) (omega arith, omega arith), fits (point + 1) (a .to))
+    omega (
+      arith,
+      level (a .from) point (omega arith, omega arith),
+      fits (a .from) point,
+      level (point + 1) (a .to)
+          (omega arith, omega arith),
+      fits (point + 1) (a .to),
+    )
 
 add-point : tie.Need-add-point Inv-loop μ-loop
 add-point c = omega arith
@@ -89,12 +110,14 @@ loop-less c = omega arith
 
 loop-again : tie.Need-loop-again Inv-loop μ-loop
 loop-again c =
-    let a = c .before .before .before .before .before .before .before .before .before .before .before .before .before .before .args in
-    let r = c .before .before .before .before .before .before .before .before .before .before .before .before .before .before .pre .0 in
+    let start = c .before .before .before .before .before .before .before .before .before .before .before .before .before .before in
+    let a = start .args in
+    let r = start .pre .0 in
     let l = c .before .before .before .before .loop in
     let P = jobs (a .day) (now (a .rel)) (now (a .dead)) in
     let sum =
-    sides-read P (a .day .slots) (a .job) (a .from) (a .to) (l .point) (now (a .table)) (r .levels (a .job) (omega arith)) (omega arith, omega arith) (omega arith, omega arith) in
+    sides-read P (a .day .slots) (a .job) (a .from) (a .to) (l .point) (now (a .table)) (r .levels (a .job) (omega arith))
+    (omega arith, omega arith) (omega arith, omega arith) in
     let may = splits-unmarked (r .prepared) (a .job) (l .point) (omega arith) (omega arith) (omega arith) in (
       omega arith,
       omega arith,
@@ -118,10 +141,12 @@ loop-again c =
 
 returns : tie.Need-returns Inv-loop μ-loop
 returns c =
-    let a = c .before .before .before .before .before .before .before .before .before .before .before .args in
+    let start = c .before .before .before .before .before .before .before .before .before .before .before in
+    let a = start .args in
     let e : c .before .loop .point ≡ c .before .before .before .before .lesser .result = omega arith in
-    searched-split (jobs (a .day) (now (a .rel)) (now (a .dead))) (a .job) (a .from) (a .to) (c .before .before .before .before .lesser .result) (c .before .loop .least) (c .before .loop .found)
-    (omega arith) (c .before .before .before .before .before .before .before .before .before .before .before .pre .1) (rw e at (c .before .loop .inv .3))
+    searched-split (jobs (a .day) (now (a .rel)) (now (a .dead))) (a .job) (a .from) (a .to)
+    (c .before .before .before .before .lesser .result) (c .before .loop .least) (c .before .loop .found)
+    (omega arith) (start .pre .1) (rw e at (c .before .loop .inv .3))
 
 pub split-of-spec : {M : Type 1} → statement M
 split-of-spec =

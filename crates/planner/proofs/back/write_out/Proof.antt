@@ -10,7 +10,8 @@ use Rattle.planner.proofs.back.write_out.Statement.{statement}
 use Rattle.planner.proofs.back.write_out.Tie as tie
 
 abbrev Inv-loop : tie.InvT-loop
-Inv-loop starts₀ order numbered number₀ starts number = (number ≤ length order) × Written (at order) 0 number (at numbered) starts₀ starts
+Inv-loop starts₀ order numbered number₀ starts number = (number ≤ length order) × Written (at order) 0 number
+    (at numbered) starts₀ starts
 
 abbrev μ-loop : tie.MeasureT-loop
 μ-loop starts₀ order numbered number₀ starts number = length order - number
@@ -31,10 +32,20 @@ shared-slice-read-starts : tie.Need-shared-slice-read-starts Inv-loop μ-loop
 shared-slice-read-starts c = omega (arith, c .before .before .before .before .pre .0)
 
 mul-starts-2 : tie.Need-mul-starts-2 Inv-loop μ-loop
-mul-starts-2 c = omega (arith, c .before .before .before .loop .inv .1 .long, c .before .before .before .before .pre .1 .0 (c .before .before .before .loop .number) (omega arith))
+mul-starts-2 c = omega (
+  arith,
+  c .before .before .before .loop .inv .1 .long,
+  c .before .before .before .before .pre .1 .0
+      (c .before .before .before .loop .number) (omega arith),
+)
 
 slice-write-starts : tie.Need-slice-write-starts Inv-loop μ-loop
-slice-write-starts c = omega (arith, c .before .before .before .loop .inv .1 .long, c .before .before .before .before .pre .1 .0 (c .before .before .before .loop .number) (omega arith))
+slice-write-starts c = omega (
+  arith,
+  c .before .before .before .loop .inv .1 .long,
+  c .before .before .before .before .pre .1 .0
+      (c .before .before .before .loop .number) (omega arith),
+)
 
 add-number : tie.Need-add-number Inv-loop μ-loop
 add-number c = omega arith
@@ -44,8 +55,12 @@ loop-less c = omega arith
 
 loop-again : tie.Need-loop-again Inv-loop μ-loop
 loop-again c =
-    let l = c .before .before .before .loop in
-    (omega arith, written-more _ _ _ _ _ _ _ (λ x h. c .before .before .before .before .pre .1 .1 x (l .number) h (omega arith)) (omega arith) (omega (arith, c .before .before .before .before .pre .1 .0 (l .number) (omega arith))) refl (l .inv .1))
+    let start = c .before .before .before .before in
+    let l = c .before .before .before .loop in (
+      omega arith,
+      written-more _ _ _ _ _ _ _ (λ x h. start .pre .1 .1 x (l .number) h (omega arith)) (omega arith)
+          (omega (arith, start .pre .1 .0 (l .number) (omega arith))) refl (l .inv .1),
+    )
 
 same-length : tie.Need-same-length Inv-loop μ-loop
 same-length c = c .before .loop .inv .1 .long

@@ -16,7 +16,8 @@ use Rattle.planner.proofs.fill.add_splits.Statement.{statement}
 use Rattle.planner.proofs.fill.add_splits.Tie as tie
 
 abbrev Inv-loop : tie.InvT-loop
-Inv-loop day rel dead lowest job from table sums₀ width deadline split₀ sums split = (at rel job ≤ split) × (split ≤ deadline) × (deadline ≤ day .slots + 1) × (length sums ≡ length sums₀) × Sums (jobs day rel dead) (day .slots) job from split sums
+Inv-loop day rel dead lowest job from table sums₀ width deadline split₀ sums split = (at rel job ≤ split) × (split ≤ deadline) ×
+    (deadline ≤ day .slots + 1) × (length sums ≡ length sums₀) × Sums (jobs day rel dead) (day .slots) job from split sums
 
 abbrev μ-loop : tie.MeasureT-loop
 μ-loop day rel dead lowest job from table sums₀ width deadline split₀ sums split = deadline - split
@@ -47,13 +48,16 @@ wide-requires-3 c κs = search needs
 
 loop-holds : tie.Need-loop-holds Inv-loop μ-loop
 loop-holds c =
-    let p = c .before .before .before .before .before .before .before .before .before .before .pre .0 in
-    let a = c .before .before .before .before .before .before .before .before .before .before .args in (
+    let start = c .before .before .before .before .before .before .before .before .before .before in
+    let p = start .pre .0 in
+    let a = start .args in (
       omega arith,
       omega (arith, p .window (a .job) (omega arith)),
       omega (arith, p .in-day (a .job) (omega arith)),
       refl,
-      rw (c .wide3 .ensures .0) (sums-none (jobs (a .day) (now (a .rel)) (now (a .dead))) (a .job) (a .day .slots) (a .from) (now (a .sums)) (c .before .before .before .before .before .before .before .before .before .before .pre .1 .1 .1)),
+      rw (c .wide3 .ensures .0)
+          (sums-none (jobs (a .day) (now (a .rel)) (now (a .dead))) (a .job) (a .day .slots) (a .from) (now (a .sums))
+          (start .pre .1 .1 .1)),
     )
 
 mul-wide-3 : tie.Need-mul-wide-3 Inv-loop μ-loop
@@ -80,16 +84,27 @@ lower-requires c κs =
     let slots = a .day .slots in
     let split = c .before .before .before .before .before .before .before .loop .split in
     let P = jobs (a .day) (now (a .rel)) (now (a .dead)) in
-    let level = c .before .before .before .before .before .before .before .before .before .before .before .before .before .before .before .before .before .before .pre .1 .0 .1 in
-    let fits = values-fit (c .before .before .before .before .before .before .before .before .before .before .before .before .before .before .before .before .before .before .pre .0) (a .job) in
+    let level =
+    c .before .before .before .before .before .before .before .before .before .before .before .before .before .before .before .before .before .before .pre .1 .0 .1 in
+    let fits = values-fit
+    (c .before .before .before .before .before .before .before .before .before .before .before .before .before .before .before .before .before .before .pre .0) (a .job) in
     let left = level (a .from) split (omega arith, omega arith) in (
-      (omega arith, omega arith, omega (arith, row-below slots (a .job) (a .job) (split + 1) (c .before .row-of .result) (omega arith) (omega arith) (c .before .row-of .ensures))),
+      (
+        omega arith,
+        omega arith,
+        omega (
+          arith,
+          row-below slots (a .job) (a .job) (split + 1) (c .before .row-of .result) (omega arith) (omega arith)
+              (c .before .row-of .ensures),
+        ),
+      ),
       λ e h l.
           omega (
             arith,
             left,
             fits (a .from) split,
-            level-read P slots (a .job) (split + 1) e (c .before .row-of .result) (now (a .table)) level (c .before .row-of .ensures) (h, omega arith),
+            level-read P slots (a .job) (split + 1) e (c .before .row-of .result) (now (a .table)) level
+                (c .before .row-of .ensures) (h, omega arith),
             fits (split + 1) e,
           ),
     )
@@ -107,7 +122,8 @@ loop-again c =
     let slots = a .day .slots in
     let P = jobs (a .day) (now (a .rel)) (now (a .dead)) in
     let p = c .before .before .before .before .before .before .before .before .before .before .before .before .before .before .before .pre .0 in
-    let level = c .before .before .before .before .before .before .before .before .before .before .before .before .before .before .before .pre .1 .0 .1 in (
+    let level =
+    c .before .before .before .before .before .before .before .before .before .before .before .before .before .before .before .pre .1 .0 .1 in (
       omega arith,
       omega arith,
       l .inv .2,
@@ -117,9 +133,18 @@ loop-again c =
           rw (w .7)
           (sums-lower P (a .job) slots (a .from) (l .split) (w .2 .result) (w .1 .result) (now (a .table)) (l .sums) _
           (splits-unmarked p (a .job) (l .split) (omega arith) (omega arith) (omega arith) (omega arith))
-          (w .1 .ensures ∙ level (a .from) (l .split) (omega (arith, c .before .before .before .before .before .before .before .before .before .before .before .before .before .before .before .pre .1 .1 .0), omega arith))
-          (λ e h u. level-read P slots (a .job) (l .split + 1) e (w .2 .result) (now (a .table)) level (w .2 .ensures) (omega arith, u))
-          (l .inv .4) (rw (c .before .before .before .before .before .before .before .before .before .wide .ensures .0) at (w .4 .ensures))))
+          (w .1 .ensures ∙ level (a .from) (l .split) (
+            omega (
+              arith,
+              c .before .before .before .before .before .before .before .before .before .before .before .before .before .before .before .pre .1 .1 .0,
+            ),
+            omega arith,
+          ))
+          (λ e h u. level-read P slots (a .job) (l .split + 1) e (w .2 .result) (now (a .table)) level (w .2 .ensures)
+          (omega arith, u))
+          (l .inv .4)
+          (rw (c .before .before .before .before .before .before .before .before .before .wide .ensures .0) at
+          (w .4 .ensures))))
           (λ w.
           rw (w .1)
           (sums-skip P (a .job) slots (a .from) (l .split) (l .sums)
@@ -136,7 +161,8 @@ returns c =
     let a = c .before .before .before .before .before .before .before .before .before .before .before .before .args in
     let e : c .before .loop .split ≡ at (now (a .dead)) (a .job) = omega arith in (
       c .before .loop .inv .3,
-      λ x h l. sums-value (jobs (a .day) (now (a .rel)) (now (a .dead))) (a .job) (a .day .slots) (a .from) x (c .before .loop .sums) (omega arith) h l (rw e at (c .before .loop .inv .4)),
+      λ x h l. sums-value (jobs (a .day) (now (a .rel)) (now (a .dead))) (a .job) (a .day .slots) (a .from) x
+          (c .before .loop .sums) (omega arith) h l (rw e at (c .before .loop .inv .4)),
     )
 
 pub add-splits-spec : {M : Type 1} → statement M

@@ -16,7 +16,9 @@ add-if2 : tie.Need-add-if2
 add-if2 c = search needs
 
 returns-2 : tie.Need-returns-2
-returns-2 c = sym (far-price-end (c .before .before .before .args .day) (c .before .before .before .args .from) (c .before .before .before .args .to) (omega arith))
+returns-2 c = sym
+    (far-price-end (c .before .before .before .args .day) (c .before .before .before .args .from)
+    (c .before .before .before .args .to) (omega arith))
 
 sub-price : tie.Need-sub-price
 sub-price c = search needs
@@ -31,7 +33,8 @@ returns-3 : tie.Need-returns-3
 returns-3 c =
     let a = c .before .before .before .before .args in
     c .price .ensures
-    ∙ sym (far-price-inside (a .day) (a .from) (a .to) (c .before .before .before .if1 .left) (λ q. c .before .if2 .left (omega arith)))
+    ∙ sym (far-price-inside (a .day) (a .from) (a .to) (c .before .before .before .if1 .left)
+    (λ q. c .before .if2 .left (omega arith)))
 
 pub far-price-spec : {M : Type 1} → statement M
 far-price-spec =

@@ -25,16 +25,26 @@ price-level-requires c κs =
 loop-holds : tie.Need-loop-holds Inv-loop μ-loop
 loop-holds c =
     let a = c .before .before .before .before .before .before .before .before .args in
-    let P = jobs (a .day) (now (a .rel)) (now (a .dead)) in
-    (omega arith, filled-here P (a .day .slots) 0 _ _ (filled-ground P (a .day .slots) _ _ (c .before .before .price-level .ensures)))
+    let P = jobs (a .day) (now (a .rel)) (now (a .dead)) in (
+      omega arith,
+      filled-here P (a .day .slots) 0 _ _
+          (filled-ground P (a .day .slots) _ _ (c .before .before .price-level .ensures)),
+    )
 
 fill-level-requires : tie.Need-fill-level-requires Inv-loop μ-loop
 fill-level-requires c κs =
-    let a = c .before .before .before .before .before .before .before .before .before .before .before .args in
+    let start = c .before .before .before .before .before .before .before .before .before .before .before in
+    let a = start .args in
     let l = c .before .before .loop in (
-      prepared-fewer (c .before .before .before .before .before .before .before .before .before .before .before .pre .0) (l .job + 1) (omega arith),
+      prepared-fewer (start .pre .0) (l .job + 1) (omega arith),
       (
-        omega (arith, l .inv .1 .long, c .before .before .before .before .before .price-level .ensures .long, need-more (a .day .slots) (l .job + 1) (a .count) (omega arith)),
+        omega (
+          arith,
+          l .inv .1 .long,
+          c .before .before .before .before .before .price-level .ensures .long,
+          need-more
+              (a .day .slots) (l .job + 1) (a .count) (omega arith),
+        ),
         l .inv .1 .levels (l .job) (omega arith),
       ),
     )
@@ -46,7 +56,11 @@ loop-less : tie.Need-loop-less Inv-loop μ-loop
 loop-less c = omega arith
 
 loop-again : tie.Need-loop-again Inv-loop μ-loop
-loop-again c = (omega arith, filled-more _ _ _ _ _ _ (c .before .before .before .before .before .loop .inv .1) (c .before .before .fill-level .ensures))
+loop-again c = (
+  omega arith,
+  filled-more _ _ _ _ _ _ (c .before .before .before .before .before .loop .inv .1)
+      (c .before .before .fill-level .ensures),
+)
 
 same-length : tie.Need-same-length Inv-loop μ-loop
 same-length c = c .before .loop .inv .1 .long ∙ c .before .before .before .before .price-level .ensures .long
@@ -56,7 +70,8 @@ returns c =
     let a = c .before .before .before .before .before .before .before .before .before .before .args in
     let P = jobs (a .day) (now (a .rel)) (now (a .dead)) in
     let e : c .before .loop .job ≡ a .count = omega arith in
-    filled-after P (a .day .slots) 0 (a .count) _ _ _ (omega arith) (filled-ground P (a .day .slots) _ _ (c .before .before .before .before .price-level .ensures))
+    filled-after P (a .day .slots) 0 (a .count) _ _ _ (omega arith)
+    (filled-ground P (a .day .slots) _ _ (c .before .before .before .before .price-level .ensures))
     (rw e at (c .before .loop .inv .1))
 
 pub fill-spec : {M : Type 1} → statement M

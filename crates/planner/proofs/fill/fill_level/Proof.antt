@@ -12,7 +12,8 @@ use Rattle.planner.proofs.fill.fill_level.Statement.{statement}
 use Rattle.planner.proofs.fill.fill_level.Tie as tie
 
 abbrev Inv-loop : tie.InvT-loop
-Inv-loop day rel dead lowest job table₀ width from₀ table from = (from ≤ width) × Rows (day .slots) (job + 1) from (value (jobs day rel dead) (job + 1)) table₀ table
+Inv-loop day rel dead lowest job table₀ width from₀ table from = (from ≤ width) × Rows (day .slots) (job + 1) from
+    (value (jobs day rel dead) (job + 1)) table₀ table
 
 abbrev μ-loop : tie.MeasureT-loop
 μ-loop day rel dead lowest job table₀ width from₀ table from = width - from
@@ -28,10 +29,20 @@ loop-holds c = (omega arith, rows-none _ _ _ _)
 
 fill-row-requires : tie.Need-fill-row-requires Inv-loop μ-loop
 fill-row-requires c κs =
-    let a = c .before .before .before .before .before .before .before .before .args in
+    let start = c .before .before .before .before .before .before .before .before in
+    let a = start .args in
     let P = jobs (a .day) (now (a .rel)) (now (a .dead)) in
-    let r = c .before .before .loop .inv .1 in
-    (c .before .before .before .before .before .before .before .before .pre .0, ((omega (arith, r .long), rows-keep (a .day .slots) (a .job + 1) (value P (a .job + 1)) P (a .job) _ _ _ (λ q. omega arith) r (c .before .before .before .before .before .before .before .before .pre .1 .1)), omega arith))
+    let r = c .before .before .loop .inv .1 in (
+      start .pre .0,
+      (
+        (
+          omega (arith, r .long),
+          rows-keep (a .day .slots) (a .job + 1) (value P (a .job + 1)) P (a .job) _ _ _
+              (λ q. omega arith) r (start .pre .1 .1),
+        ),
+        omega arith,
+      ),
+    )
 
 add-from : tie.Need-add-from Inv-loop μ-loop
 add-from c = omega arith
@@ -40,7 +51,11 @@ loop-less : tie.Need-loop-less Inv-loop μ-loop
 loop-less c = omega arith
 
 loop-again : tie.Need-loop-again Inv-loop μ-loop
-loop-again c = (omega arith, rows-more _ _ _ _ _ _ _ (omega arith) (c .before .before .before .before .before .loop .inv .1) (c .before .before .fill-row .ensures))
+loop-again c = (
+  omega arith,
+  rows-more _ _ _ _ _ _ _ (omega arith) (c .before .before .before .before .before .loop .inv .1)
+      (c .before .before .fill-row .ensures),
+)
 
 same-length : tie.Need-same-length Inv-loop μ-loop
 same-length c = c .before .loop .inv .1 .long

@@ -27,7 +27,8 @@ shared-slice-read-lesser : tie.Need-shared-slice-read-lesser Inv-loop μ-loop
 shared-slice-read-lesser c = omega arith
 
 add-lesser-2 : tie.Need-add-lesser-2 Inv-loop μ-loop
-add-lesser-2 c = omega (arith, c .before .before .before .before .before .pre .1 (c .before .before .loop .e) (omega arith) (omega arith))
+add-lesser-2 c = omega
+    (arith, c .before .before .before .before .before .pre .1 (c .before .before .loop .e) (omega arith) (omega arith))
 
 mul-lesser-2 : tie.Need-mul-lesser-2 Inv-loop μ-loop
 mul-lesser-2 c = omega arith

@@ -34,7 +34,11 @@ loop-less : tie.Need-loop-less Inv-loop μ-loop
 loop-less c = omega arith
 
 loop-again : tie.Need-loop-again Inv-loop μ-loop
-loop-again c = (omega arith, rows-more _ _ _ _ _ _ _ (omega arith) (c .before .before .before .before .before .loop .inv .1) (c .before .before .price-row .ensures))
+loop-again c = (
+  omega arith,
+  rows-more _ _ _ _ _ _ _ (omega arith) (c .before .before .before .before .before .loop .inv .1)
+      (c .before .before .price-row .ensures),
+)
 
 same-length : tie.Need-same-length Inv-loop μ-loop
 same-length c = c .before .loop .inv .1 .long

@@ -12,7 +12,8 @@ use Rattle.planner.proofs.fill.price_row.Statement.{statement}
 use Rattle.planner.proofs.fill.price_row.Tie as tie
 
 abbrev Inv-loop : tie.InvT-loop
-Inv-loop day from table₀ here width e₀ table e = (from ≤ e) × (e ≤ width) × (here + width ≤ length table₀) × Written (after here) from e (far-price day from) table₀ table
+Inv-loop day from table₀ here width e₀ table e = (from ≤ e) × (e ≤ width) × (here + width ≤ length table₀) × Written
+    (after here) from e (far-price day from) table₀ table
 
 abbrev μ-loop : tie.MeasureT-loop
 μ-loop day from table₀ here width e₀ table e = width - e
@@ -28,8 +29,16 @@ add-width c = omega arith
 
 loop-holds : tie.Need-loop-holds Inv-loop μ-loop
 loop-holds c =
-    let a = c .before .before .before .args in
-    (omega arith, omega arith, omega (arith, row-below (a .day .slots) 0 0 (a .from) (c .before .row-of .result) (omega arith) (omega arith) (c .before .row-of .ensures)), written-none _ _ _ _)
+    let a = c .before .before .before .args in (
+      omega arith,
+      omega arith,
+      omega (
+        arith,
+        row-below (a .day .slots) 0 0 (a .from) (c .before .row-of .result) (omega arith) (omega arith)
+            (c .before .row-of .ensures),
+      ),
+      written-none _ _ _ _,
+    )
 
 far-price-requires : tie.Need-far-price-requires Inv-loop μ-loop
 far-price-requires c κs = search needs

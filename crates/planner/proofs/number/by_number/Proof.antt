@@ -28,7 +28,8 @@ mul-to : tie.Need-mul-to Inv-loop μ-loop
 mul-to c = omega (arith, c .before .before .before .pre .1 (c .before .before .loop .number) (omega arith))
 
 shared-slice-read-to : tie.Need-shared-slice-read-to Inv-loop μ-loop
-shared-slice-read-to c = omega (arith, c .before .before .before .before .pre .1 (c .before .before .before .loop .number) (omega arith))
+shared-slice-read-to c = omega
+    (arith, c .before .before .before .before .pre .1 (c .before .before .before .loop .number) (omega arith))
 
 add-to : tie.Need-add-to Inv-loop μ-loop
 add-to c = omega (arith, c .before .before .before .before .pre .1 (c .before .before .before .loop .number) (omega arith))
@@ -46,7 +47,11 @@ loop-less : tie.Need-loop-less Inv-loop μ-loop
 loop-less c = omega arith
 
 loop-again : tie.Need-loop-again Inv-loop μ-loop
-loop-again c = (omega arith, written-more _ _ _ _ _ _ _ (λ x h q. omega arith) (omega arith) (omega arith) refl (c .before .before .before .loop .inv .1))
+loop-again c = (
+  omega arith,
+  written-more _ _ _ _ _ _ _ (λ x h q. omega arith) (omega arith) (omega arith) refl
+      (c .before .before .before .loop .inv .1),
+)
 
 same-length : tie.Need-same-length Inv-loop μ-loop
 same-length c = c .before .loop .inv .1 .long

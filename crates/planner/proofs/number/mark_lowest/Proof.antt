@@ -11,7 +11,8 @@ use Rattle.planner.proofs.number.mark_lowest.Statement.{statement}
 use Rattle.planner.proofs.number.mark_lowest.Tie as tie
 
 abbrev Inv-loop : tie.InvT-loop
-Inv-loop rel count lowest₀ number₀ lowest number = (number ≤ count) × (length lowest ≡ length lowest₀) × Lowest rel number count lowest
+Inv-loop rel count lowest₀ number₀ lowest number = (number ≤ count) ×
+    (length lowest ≡ length lowest₀) × Lowest rel number count lowest
 
 abbrev μ-loop : tie.MeasureT-loop
 μ-loop rel count lowest₀ number₀ lowest number = number
@@ -35,22 +36,33 @@ cast-lowest : tie.Need-cast-lowest Inv-loop μ-loop
 cast-lowest c = omega arith
 
 mul-lowest : tie.Need-mul-lowest Inv-loop μ-loop
-mul-lowest c = omega (arith, c .before .before .before .before .before .before .pre .1 .0 (c .before .before .before .loop .number - 1) (omega arith))
+mul-lowest c = omega (
+  arith,
+  c .before .before .before .before .before .before .pre .1 .0 (c .before .before .before .loop .number - 1)
+      (omega arith),
+)
 
 slice-write-lowest : tie.Need-slice-write-lowest Inv-loop μ-loop
-slice-write-lowest c = omega (arith, c .before .before .before .before .before .before .pre .1 .0 (c .before .before .before .loop .number - 1) (omega arith))
+slice-write-lowest c = omega (
+  arith,
+  c .before .before .before .before .before .before .pre .1 .0 (c .before .before .before .loop .number - 1)
+      (omega arith),
+)
 
 loop-less : tie.Need-loop-less Inv-loop μ-loop
 loop-less c = omega arith
 
 loop-again : tie.Need-loop-again Inv-loop μ-loop
 loop-again c =
+    let start = c .before .before .before .before .before .before in
     let l = c .before .before .before .loop in
-    let room = c .before .before .before .before .before .before .pre .1 .0 (l .number - 1) (omega arith) in
+    let room = start .pre .1 .0 (l .number - 1) (omega arith) in
     let next : l .number - 1 + 1 ≡ l .number = omega arith in (
       omega arith,
       simp length-set (l .inv .1),
-      rw (c .wide .ensures .0) (lowest-more (now (c .before .before .before .before .before .before .args .rel)) (c .before .before .before .before .before .before .args .count) (l .number - 1) (l .lowest) (omega arith) (omega arith) (rw next (l .inv .2))),
+      rw (c .wide .ensures .0)
+          (lowest-more (now (start .args .rel)) (start .args .count) (l .number - 1) (l .lowest) (omega arith) (omega arith)
+          (rw next (l .inv .2))),
     )
 
 same-length : tie.Need-same-length Inv-loop μ-loop

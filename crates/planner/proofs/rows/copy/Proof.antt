@@ -42,12 +42,13 @@ loop-less c = omega arith
 
 loop-again : tie.Need-loop-again Inv-loop μ-loop
 loop-again c =
-    let a = c .before .before .before .args in
+    let start = c .before .before .before in
+    let a = start .args in
     let l = c .before .before .loop in (
       omega arith,
       omega arith,
       written-more _ _ _ _ _ _ _ (λ x h q. omega arith) (omega arith) (omega arith)
-          (l .inv .2 .outside (a .from + l .e) (λ x h u. c .before .before .before .pre .3 (l .e) x (omega arith) (omega arith) h (omega arith)))
+          (l .inv .2 .outside (a .from + l .e) (λ x h u. start .pre .3 (l .e) x (omega arith) (omega arith) h (omega arith)))
           (l .inv .2),
     )
 

@@ -20,8 +20,9 @@ mul-result c =
 
 shared-slice-read-result : tie.Need-shared-slice-read-result
 shared-slice-read-result c =
-    let a = c .before .before .before .args in
-    omega (arith, place-below (a .slots) (a .jobs) (a .jobs) (a .from) (a .to) (omega arith) (c .before .before .before .pre .2))
+    let start = c .before .before .before in
+    let a = start .args in
+    omega (arith, place-below (a .slots) (a .jobs) (a .jobs) (a .from) (a .to) (omega arith) (start .pre .2))
 
 returns : tie.Need-returns
 returns c = rw (c .before .row-of .ensures)
