@@ -33,7 +33,8 @@ use Rattle.planner.specs.Promise.{costs, none-proper, Planned, Never}
 use Rattle.planner.proofs.Promise.{never-clear}
 
 -- a list that the checks accept is one for the rule
-pub ready-of : (day : Day) (w : Windows) (row : ℕ → ℕ) → Accepted day w → Numbered (w .count) (w .deadline) row → Ready day w row none
+pub ready-of : (day : Day) (w : Windows) (row : ℕ → ℕ) → Accepted day w → Numbered (w .count)
+    (w .deadline) row → Ready day w row none
 ready-of day w row accepted numbered = record {
   numbered = numbered;
   window = accepted .rows .window;
@@ -104,7 +105,8 @@ module _ (day : Day) (w : Windows) (order rel dead starts table : List ℕ) (R :
       (omega arith) h
 
   module _ (a : Answer) (p t : List ℕ) (F : Finished day rel dead order (w .count) starts table a p t) where
-    found-planned : whole-value day rel dead (w .count) < none → Planned Never (need (day .slots) (w .count)) day w starts table a p t
+    found-planned : whole-value day rel dead (w .count) < none → Planned Never
+        (need (day .slots) (w .count)) day w starts table a p t
     found-planned h =
         give (F .found h)
         (λ f.
@@ -126,7 +128,8 @@ module _ (day : Day) (w : Windows) (order rel dead starts table : List ℕ) (R :
           kept = λ e g. absurd (e code);
         })
 
-    missing-planned : none ≤ whole-value day rel dead (w .count) → Planned Never (need (day .slots) (w .count)) day w starts table a p t
+    missing-planned : none ≤ whole-value day rel dead (w .count) → Planned Never
+        (need (day .slots) (w .count)) day w starts table a p t
     missing-planned h =
         give (F .not-found h)
         (λ f.
@@ -183,7 +186,8 @@ module _ (day : Day) (releases deadlines order : List ℕ) (accepted : Accepted 
       deadline = λ k h. d .inside k (omega arith) h;
     }
 
-    pub prepared-of : (lowest : List ℕ) → n ≤ length rel₀ → n ≤ length dead₀ → day .slots + 3 ≤ length lowest → Lowest rel 0 n lowest
+    pub prepared-of :
+        (lowest : List ℕ) → n ≤ length rel₀ → n ≤ length dead₀ → day .slots + 3 ≤ length lowest → Lowest rel 0 n lowest
         → Prepared day rel dead lowest n
     prepared-of lowest a b long marks = record {
       slots = accepted .slots;
@@ -194,7 +198,13 @@ module _ (day : Day) (releases deadlines order : List ℕ) (accepted : Accepted 
       points = long;
       after-far = λ k h. omega (arith, r .inside k (omega arith) h);
       window = λ k h.
-          omega (arith, r .inside k (omega arith) h, d .inside k (omega arith) h, accepted .rows .window (at order k) (row-below-count k h));
+          omega (
+            arith,
+            r .inside k (omega arith) h,
+            d .inside k (omega arith) h,
+            accepted .rows .window (at order k)
+                (row-below-count k h),
+          );
       in-day = λ k h. omega (arith, d .inside k (omega arith) h, accepted .rows .in-day (at order k) (row-below-count k h));
       marks = marks;
     }

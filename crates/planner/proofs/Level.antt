@@ -33,7 +33,8 @@ module _ (P : Problem) (slots k s below here lo hi : ℕ) (p : below ≡ row slo
       → Written (after here) lo hi (along old below) old new → Written (place slots (k + 1) s) lo hi (value P (k + 1) s) old new
   row-copied old new level out w =
       written-as (place slots (k + 1) s) (along old below) (value P (k + 1) s) lo hi old new
-      (λ e a b. level-read P slots k s e below old level p (omega arith, omega arith) ∙ rw add-one (sym (value-out P k s e (out e a b))))
+      (λ e a b. level-read P slots k s e below old level p (omega arith, omega arith) ∙ rw add-one
+      (sym (value-out P k s e (out e a b))))
       (rw q at w)
 
   pub row-stored : (sums old new : List ℕ) → ((e : ℕ) → lo ≤ e → e ≤ slots + 2 → at sums e ≡ value P (k + 1) s e)

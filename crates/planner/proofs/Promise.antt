@@ -48,7 +48,8 @@ module _ (Check : Answer → Type 0) (need : ℕ) (day : Day) (w : Windows) (sta
         on-eq (a .code) done (λ d. best-in-unique day w starts p q (A .planned d) (C .planned d))
             (λ d. A .unplanned d ∙ sym (C .unplanned d)),
         on-eq (a .code) done (λ d. A .cleared (inl d) ∙ sym (C .cleared (inl d)))
-            (λ d. on-eq (a .code) no-plan (λ n. A .cleared (inr n) ∙ sym (C .cleared (inr n))) (λ n. A .kept d n ∙ sym (C .kept d n))),
+            (λ d. on-eq (a .code) no-plan (λ n. A .cleared (inr n) ∙ sym (C .cleared (inr n)))
+            (λ n. A .kept d n ∙ sym (C .kept d n))),
       )
 
   -- a refusal touches nothing

@@ -22,7 +22,7 @@ module _ (P : Problem) where
   back-none s e old = record { long = refl; read = λ i w. absurd (omega (arith, w .0)); kept = λ i n. refl }
 
   -- a job that isn't released in the span is passed over
-  pub back-out : (k s e : ℕ) (old new : List ℕ) → (In P s e k → ⊥) → ReadBack P k s e old new → ReadBack P (suc k) s e old new
+  back-out : (k s e : ℕ) (old new : List ℕ) → (In P s e k → ⊥) → ReadBack P k s e old new → ReadBack P (suc k) s e old new
   back-out k s e old new out r = record {
     long = r .long;
     read = λ i w. on-eq i k (λ q. absurd (out (rw (← q) (w .1, w .2))))
@@ -37,18 +37,26 @@ module _ (P : Problem) where
     released-after i below h =
         on-eq (P .release i) (split P k s e) (λ q. absurd (best .may .clear i below q)) (λ q. omega arith)
 
-    pub back-in : (v : ℕ) (old left new : List ℕ) → v + 1 ≡ split P k s e → k < length old
+    back-in : (v : ℕ) (old left new : List ℕ) → v + 1 ≡ split P k s e → k < length old
         → ReadBack P k s (split P k s e) (set old k v) left → ReadBack P k (suc (split P k s e)) e left new
         → ReadBack P (suc k) s e old new
     back-in v old left new start room l r = record {
       long = r .long ∙ l .long ∙ length-set old k v;
       read = λ i w. on-eq i k
-          (λ q. rw q (omega (arith, r .kept k (λ z. omega (arith, z .0)), l .kept k (λ z. omega (arith, z .0)), getD-set-same old k v 0 room, read-back-last P k s e inside)))
+          (λ q. rw q
+          (omega (
+            arith,
+            r .kept k (λ z. omega (arith, z .0)),
+            l .kept k (λ z. omega (arith, z .0)),
+            getD-set-same old k v 0 room,
+            read-back-last P k s e inside,
+          )))
           (λ q.
           let below : i < k = omega (arith, w .0) in
           on-le (split P k s e) (P .release i)
           (λ h. r .read i (below, released-after i below h, w .2) ∙ sym (read-back-right P k s e i inside below h))
-          (λ h. omega (arith, r .kept i (λ z. omega (arith, z .1)), l .read i (below, w .1, h), read-back-left P k s e i inside below h)));
+          (λ h. omega
+          (arith, r .kept i (λ z. omega (arith, z .1)), l .read i (below, w .1, h), read-back-left P k s e i inside below h)));
       kept = λ i n.
           r .kept i (λ z. n (omega (arith, z .0), omega (arith, z .1, best .may .low, inside), z .2))
           ∙ l .kept i (λ z. n (omega (arith, z .0), z .1, omega (arith, z .2, best .below)))
@@ -56,7 +64,8 @@ module _ (P : Problem) where
     }
 
   -- the same, as code has it
-  pub back-passed : (n k s e : ℕ) (old new : List ℕ) → n ≡ suc k → (In P s e k → ⊥) → ReadBack P k s e old new → ReadBack P n s e old new
+  pub back-passed : (n k s e : ℕ) (old new : List ℕ) → n ≡ suc k → (In P s e k → ⊥) → ReadBack P k s e old new
+      → ReadBack P n s e old new
   back-passed n k s e old new p out r = rw p (back-out k s e old new out r)
 
   pub back-split : (n k s e t : ℕ) (old left new : List ℕ) → n ≡ suc k → t ≡ split P k s e → In P s e k
@@ -67,7 +76,8 @@ module _ (P : Problem) where
       rw p (back-in k s e inside best (t - 1) old left new (omega arith) room at-split (rw (add-one, q) at r))
 
 -- the highest of the lowest n jobs has the number k
-module _ {day : Day} {rel dead lowest table : List ℕ} {n s e : ℕ} (r : Readable day rel dead lowest table n s e) (k : ℕ) (p : n ≡ suc k) where
+module _ {day : Day} {rel dead lowest table : List ℕ} {n s e : ℕ} (r : Readable day rel dead lowest table n s e) (k : ℕ)
+    (p : n ≡ suc k) where
   abbrev P : Problem
   P = jobs day rel dead
 
