@@ -11,3 +11,4 @@ pub mod Copies
 pub mod Handed
 pub mod Shared
 pub mod Puts
+pub mod Unique

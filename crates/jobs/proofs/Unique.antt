@@ -1,0 +1,53 @@
+-- Where a promise speaks of the columns of a list or of a slot's record in numbers, it determines the outcome too. Assumes nothing.
+use Prim.Native.Nat.{ℕ}
+use mathlib.Core.Path.{_≡_, refl, sym, _∙_, ap}
+use mathlib.Core.List.{List, [], _∷_, nil≢cons, cons≢nil, head-eq-of-cons-eq, tail-eq-of-cons-eq}
+use lib.IntN.{ℤ}
+use Rattle.day.specs.declared.Answer.{Answer}
+use Rattle.day.specs.declared.Day.{Day}
+use Rattle.day.specs.declared.Job.{Job}
+use Rattle.day.specs.Windows.{Windows}
+use Rattle.day.proofs.Cases.{give}
+use Rattle.dayfile.specs.declared.Reading.{Reading}
+use Rattle.dayfile.specs.Reader.{Read}
+use Rattle.dayfile.proofs.Unique.{read-unique}
+use Rattle.moving.specs.Moving.{MovedList}
+use Rattle.moving.proofs.Unique.{moved-list-unique}
+use Rattle.ledger.proofs.Promise.{shown-unique}
+use Rattle.jobs.specs.declared.numbers.SlotNumbers.{SlotNumbers}
+use Rattle.jobs.specs.Columns.{releases, deadlines}
+use Rattle.jobs.specs.Slot.{in-numbers, SlotNumbered}
+
+same-job : (j k : Job) → j .release ≡ k .release → j .deadline ≡ k .deadline → j ≡ k
+same-job j k r d = rw (r, d)
+
+-- two lists with the same columns are the same
+same-columns : (js ks : List Job) → releases js ≡ releases ks → deadlines js ≡ deadlines ks → js ≡ ks
+same-columns [] [] r d = refl
+same-columns [] (k ∷ ks) r d = absurd (nil≢cons r)
+same-columns (j ∷ js) [] r d = absurd (cons≢nil r)
+same-columns (j ∷ js) (k ∷ ks) r d =
+    give (same-job j k (head-eq-of-cons-eq r) (head-eq-of-cons-eq d))
+    (λ (a : j ≡ k).
+    give (same-columns js ks (tail-eq-of-cons-eq r) (tail-eq-of-cons-eq d)) (λ (b : js ≡ ks). rw (a, b)))
+
+pub moved-jobs-unique : (slots : ℕ) (by : ℤ) (jobs : List Job) (a b : Answer) (js ks : List Job)
+    → MovedList slots by (releases jobs) (deadlines jobs) a (releases js) (deadlines js)
+    → MovedList slots by (releases jobs) (deadlines jobs) b (releases ks) (deadlines ks)
+    → (a ≡ b) × (js ≡ ks)
+moved-jobs-unique slots by jobs a b js ks p q =
+    give (moved-list-unique p q) (λ s. (s .0, same-columns js ks (s .1) (s .2)))
+
+pub read-jobs-unique : (file : List ℕ) (jobs : List Job) (a b : Reading) (js ks : List Job)
+    → Read file (releases jobs) (deadlines jobs) a (releases js) (deadlines js)
+    → Read file (releases jobs) (deadlines jobs) b (releases ks) (deadlines ks)
+    → (a ≡ b) × (js ≡ ks)
+read-jobs-unique file jobs a b js ks p q =
+    give (read-unique p q) (λ s. (s .0, same-columns js ks (s .1) (s .2)))
+
+pub slot-numbers-unique : (day : Day) (w : Windows) (starts : List ℕ) (asked : ℕ) (a b : SlotNumbers)
+    → SlotNumbered day w starts asked a → SlotNumbered day w starts asked b → a ≡ b
+slot-numbers-unique day w starts asked a b p q =
+    p .same
+    ∙ ap in-numbers (shown-unique day w starts asked (p .shown) (q .shown) (p .promised) (q .promised))
+    ∙ sym (q .same)
