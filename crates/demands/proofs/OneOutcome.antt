@@ -11,6 +11,9 @@ use Rattle.claim.proofs.Promise.{judged-unique, priced-unique, chosen-unique, h
 use Rattle.ledger.proofs.Promise.{ledgered-unique, shown-unique}
 use Rattle.moving.proofs.Unique.{moved-list-unique}
 use Rattle.dayfile.proofs.Unique.{read-unique, written-unique}
+use Rattle.jobs.proofs.Unique.{moved-jobs-unique, read-jobs-unique, slot-numbers-unique}
+use Rattle.report.proofs.Lines.{prints-unique}
+use Rattle.report.proofs.Unique.{file-reported-unique, file-printed-unique}
 use Rattle.demands.specs.OneOutcome.{AtMostOne, OneOutcome}
 
 -- a check that passes or refuses
@@ -45,4 +48,12 @@ one-outcome =
           give (moved-list-unique p q) (λ s. all-same x y (s .0) (s .1) (s .2));
       read = λ file releases deadlines x y p q. give (read-unique p q) (λ s. all-same x y (s .0) (s .1) (s .2));
       write = λ notes day releases deadlines file x y p q. give (written-unique p q) (λ s. both-same x y (s .0) (s .1));
+      move-jobs = λ slots by jobs x y p q.
+          give (moved-jobs-unique slots by jobs (x .0) (y .0) (x .1) (y .1) p q) (λ s. both-same x y (s .0) (s .1));
+      read-jobs = λ file jobs x y p q.
+          give (read-jobs-unique file jobs (x .0) (y .0) (x .1) (y .1) p q) (λ s. both-same x y (s .0) (s .1));
+      slot-numbers = slot-numbers-unique;
+      plan-file = λ file starts table x y p q. give (file-reported-unique file starts table p q) (λ s. all-same x y (s .0) (s .1) (s .2));
+      report = λ file table x y p q. give (file-printed-unique file table p q) (λ s. both-same x y (s .0) (s .1));
+      render = prints-unique;
     }

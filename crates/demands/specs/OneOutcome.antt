@@ -8,6 +8,7 @@ use denote.Ref.{RefT}
 use Rattle.day.specs.declared.Answer.{Answer}
 use Rattle.day.specs.declared.Power.{Power}
 use Rattle.day.specs.declared.Day.{Day}
+use Rattle.day.specs.declared.Job.{Job}
 use Rattle.day.specs.Windows.{Windows}
 use Rattle.day.specs.Refusal.{_then_, Passed}
 use Rattle.day.specs.Check.{SlotsCheck, PowerCheck, JobsCheck, ListCheck}
@@ -22,6 +23,12 @@ use Rattle.moving.specs.Moving.{MovedList}
 use Rattle.dayfile.specs.declared.Reading.{Reading}
 use Rattle.dayfile.specs.Reader.{Read}
 use Rattle.dayfile.specs.Writer.{Written}
+use Rattle.jobs.specs.Columns.{releases, deadlines}
+use Rattle.jobs.specs.Slot.{SlotNumbered}
+use Rattle.report.specs.declared.Outcome.{Outcome}
+use Rattle.report.specs.declared.text.Text.{Text}
+use Rattle.report.specs.Lines.{Prints}
+use Rattle.report.specs.File.{FileReported, FilePrinted}
 
 abbrev pub AtMostOne : {A : Type 0} → (A → Type 0) → Type 0
 AtMostOne {A} Promise = (x y : A) → Promise x → Promise y → x ≡ y
@@ -56,3 +63,15 @@ pub record OneOutcome : Type 0 where
       → AtMostOne {A = Reading × List ℕ × List ℕ} (λ o. Read file releases deadlines (o .0) (o .1) (o .2))
   pub write : (notes : ℕ) (day : Day) (releases deadlines file : List ℕ)
       → AtMostOne {A = Answer × List ℕ} (λ o. Written notes day releases deadlines file (o .0) (o .1))
+  -- jobs: the record forms that write a list, and the slot's record in numbers; what the others promise is a promise above, at the list's windows
+  pub move-jobs : (slots : ℕ) (by : ℤ) (jobs : List Job)
+      → AtMostOne {A = Answer × List Job}
+      (λ o. MovedList slots by (releases jobs) (deadlines jobs) (o .0) (releases (o .1)) (deadlines (o .1)))
+  pub read-jobs : (file : List ℕ) (jobs : List Job)
+      → AtMostOne {A = Reading × List Job} (λ o. Read file (releases jobs) (deadlines jobs) (o .0) (releases (o .1)) (deadlines (o .1)))
+  pub slot-numbers : (day : Day) (w : Windows) (starts : List ℕ) (asked : ℕ) → AtMostOne (SlotNumbered day w starts asked)
+  -- report
+  pub plan-file : (file starts table : List ℕ)
+      → AtMostOne {A = Outcome × List ℕ × List ℕ} (λ o. FileReported file starts table (o .0) (o .1) (o .2))
+  pub report : (file table : List ℕ) → AtMostOne {A = Text × List ℕ} (λ o. FilePrinted file table (o .0) (o .1))
+  pub render : (bytes : List ℕ) → AtMostOne (Prints bytes)
