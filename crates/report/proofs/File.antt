@@ -17,6 +17,7 @@ use Rattle.day.proofs.Check.{clear-accepted, accepted-clear}
 use Rattle.dayfile.specs.declared.Reading.{Reading}
 use Rattle.dayfile.specs.Format.{count-in, release-in, deadline-in}
 use Rattle.dayfile.specs.Reader.{Fills, FileCheck, Read}
+use Rattle.dayfile.proofs.Refusals.{past}
 use Rattle.dayfile.proofs.Reader.{readable, day-ext}
 use Rattle.dayfile.proofs.Unique.{file-check-unique}
 use Rattle.claim.specs.Claim.{ClaimCheck}
@@ -32,7 +33,7 @@ use Rattle.report.specs.File.{
   listed,
   day-of,
   windows-of,
-  ReaderCheck,
+  InputCheck,
   FilePlanCheck,
   no-outcome,
   Reported,
@@ -114,27 +115,31 @@ reader-not-no-plan file room =
     (not-code (λ e. omega arith) (not-code (λ e. omega arith) (λ p e. omega (arith, ap code-of p)))))))
 
 module _ (file starts table : List ℕ) where
-  file-refused : (a : Answer) → FilePlanCheck file starts table a → (a .code ≡ done → ⊥) → (a .code ≡ no-plan → ⊥)
+  input-refused : (a : Answer) → InputCheck file a → (a .code ≡ done → ⊥) → (a .code ≡ no-plan → ⊥)
       → FileReported file starts table (no-outcome a) starts table
-  file-refused a p h n =
+  input-refused a p h n =
       refused-reported
-      (planned-refused (FilePlanCheck file starts table) (need (day-of file .slots) (windows-of file .count)) (day-of file) (windows-of file) starts table a (stops p) h n)
+      (planned-refused (FilePlanCheck file starts table) (need (day-of file .slots) (windows-of file .count)) (day-of file) (windows-of file)
+      starts table a (stops (stops p)) h n)
       h
 
   pub file-too-long : (a : Answer) → most-bytes < length file → a ≡ says long-input 0 0 → FileReported file starts table (no-outcome a) starts table
   file-too-long a h e =
-      file-refused a (stops (record { fault = h; says = e })) (λ d. omega (arith, ap code-of e)) (λ d. omega (arith, ap code-of e))
+      let long : Refuses long-input (most-bytes < length file) a = record { fault = h; says = e } in
+      input-refused a (stops long) (λ d. omega (arith, ap code-of e)) (λ d. omega (arith, ap code-of e))
 
   pub file-not-read : (a : Answer) → length file ≤ most-bytes → FileCheck file most-jobs a → (a .code ≡ done → ⊥)
       → FileReported file starts table (no-outcome a) starts table
   file-not-read a h p d =
-      file-refused a (goes-on (λ b r. omega (arith, r .fault)) (stops (record { reads = p; refused = d }))) d (reader-not-no-plan file most-jobs p)
+      input-refused a (past (λ l. omega arith) (record { reads = p; refused = d })) d (reader-not-no-plan file most-jobs p)
 
+  -- of a file that is read, the rows are planned
   pub file-read : {o : Outcome} {p t : List ℕ} (a : Answer) → length file ≤ most-bytes → FileCheck file most-jobs a → a .code ≡ done
       → RowsReported (day-of file) (windows-of file) starts table o p t → FileReported file starts table o p t
-  file-read a h p d R =
-      checked-reported (λ b r. omega (arith, r .fault))
-      (checked-reported (λ b r. r .refused (ap code-of (file-check-unique file most-jobs b a (r .reads) p) ∙ d)) R)
+  file-read a h p d =
+      checked-reported
+      (then-clear (λ b r. omega (arith, r .fault))
+      (λ b r. r .refused (ap code-of (file-check-unique file most-jobs b a (r .reads) p) ∙ d)))
 
 listed-length : (f : ℕ → ℕ) (n : ℕ) → length (listed f n) ≡ n
 unfolding listed

@@ -17,7 +17,7 @@ use Rattle.ledger.specs.declared.LedgerAnswer.{LedgerAnswer}
 use Rattle.ledger.proofs.Promise.{ledgered-unique}
 use Rattle.report.specs.declared.Outcome.{Outcome}
 use Rattle.report.specs.declared.text.Text.{Text}
-use Rattle.report.specs.File.{day-of, windows-of, ReaderCheck, FilePlanCheck, no-outcome, Reported, FileReported, FilePrinted}
+use Rattle.report.specs.File.{day-of, windows-of, ReaderCheck, no-outcome, Reported, FileReported, FilePrinted}
 use Rattle.report.proofs.Lines.{prints-unique}
 
 reported-unique : {Check : Answer → Type 0} {day : Day} {w : Windows} {starts table p t p′ t′ : List ℕ} {o q : Outcome} → IsCheck Check
@@ -46,8 +46,8 @@ pub file-reported-unique : (file starts table : List ℕ) {p t p′ t′ : List 
     → FileReported file starts table q p′ t′ → (o ≡ q) × (p ≡ p′) × (t ≡ t′)
 file-reported-unique file starts table =
     reported-unique
-    (then-is-check (refuses-is-check (λ e. omega arith))
-    (then-is-check reader-is-check (plan-is-check (day-of file) (windows-of file) starts table)))
+    (then-is-check (then-is-check (refuses-is-check (λ e. omega arith)) reader-is-check)
+    (plan-is-check (day-of file) (windows-of file) starts table))
 
 pub file-printed-unique : (file table : List ℕ) {t t′ : List ℕ} {text other : Text} → FilePrinted file table text t
     → FilePrinted file table other t′ → (text ≡ other) × (t ≡ t′)

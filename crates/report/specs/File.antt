@@ -40,12 +40,13 @@ pub record ReaderCheck (file : List ℕ) (a : Answer) : Type 0 where
   pub reads : FileCheck file most-jobs a
   pub refused : a .code ≡ done → ⊥
 
--- code 17 before all others, then the reader's codes, then the planner's
+-- code 17 before all others
+abbrev pub InputCheck : List ℕ → Answer → Type 0
+InputCheck file = Refuses long-input (most-bytes < length file) then ReaderCheck file
+
+-- the input's codes, then the planner's
 abbrev pub FilePlanCheck : List ℕ → List ℕ → List ℕ → Answer → Type 0
-FilePlanCheck file starts table =
-    Refuses long-input (most-bytes < length file)
-    then ReaderCheck file
-    then PlanCheck (day-of file) (windows-of file) starts table
+FilePlanCheck file starts table = InputCheck file then PlanCheck (day-of file) (windows-of file) starts table
 
 abbrev pub no-outcome : Answer → Outcome
 no-outcome answer = record { answer = answer; count = 0; counts = no-counts }
