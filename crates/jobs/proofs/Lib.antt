@@ -12,3 +12,4 @@ pub mod Handed
 pub mod Shared
 pub mod Puts
 pub mod Unique
+pub mod Counted

@@ -39,16 +39,6 @@ use Rattle.jobs.proofs.rows.put_back.Symbol as put-back-def
 use Rattle.jobs.proofs.rows.put_back.Symbol.{name as #put-back}
 use Rattle.jobs.proofs.rows.put_back.Met as put-back-thm
 
--- a contract's post, at a result and last values
-pub leaves : {M : Type 1} (𝓤 : URA M) (H : Heap 𝓤) (A : Atoms 𝓤) (W : Given 𝓤 H A) (T : Ended) (c : Clauses 𝓤 T) (y : tripleOf 𝓤 H A (T .signature) (closing 𝓤 H A T c) .Ghost) (v : Val) (r : Res (T .signature) (y .0 .0)) (ws : Lasts T (y .0 .0) (y .0 .3))
-    → ent 𝓤 (sep 𝓤 (Back 𝓤 H A (T .signature) (y .0) v r) (sep 𝓤 (sem 𝓤 H A (lasts T (y .0 .0) (y .0 .3) ws)) (c (y .0 .0) (y .0 .3) .ensures (y .1) r (atExit T (y .0 .0) (y .0 .3) ws)))) (tripleOf 𝓤 H A (T .signature) (closing 𝓤 H A T c) .post y v)
-leaves 𝓤 H A W T c y v r ws =
-    qed W (raw (Back 𝓤 H A (T .signature) (y .0) v r) ∷ raw (Said ws) ∷ []) ∵ updating ! $ at-once ! $ show ! (λ (r′ : Res (T .signature) (y .0 .0)). sep 𝓤 (Back 𝓤 H A (T .signature) (y .0) v r′) (ensured 𝓤 H A T c (y .0 .0) (y .0 .3) (y .1) r′)) r $ frame ! $
-    show ! Said ws $ done !
-  where
-    Said : Lasts T (y .0 .0) (y .0 .3) → SProp 𝓤
-    Said ws′ = sep 𝓤 (sem 𝓤 H A (lasts T (y .0 .0) (y .0 .3) ws′)) (c (y .0 .0) (y .0 .3) .ensures (y .1) r (atExit T (y .0 .0) (y .0 .3) ws′))
-
 -- what is left of a list that was lent: that its last rows are these
 abbrev pub Last : RefT (List Job) → List Job → Fml
 Last x zs = fsep (finally R (name x) zs) (feq ℕ (length zs) (length (now x)))

@@ -52,11 +52,11 @@ use Rattle.jobs.proofs.by_value.MovedRows as B
 use Rattle.jobs.proofs.by_value.MovedRows.Laws as B′
 use Rattle.jobs.proofs.rows.Rows as P
 use Rattle.jobs.proofs.rows.Rows.Laws as P′
-use Rattle.jobs.proofs.Setting.{R, S, rowsTy, rules, calls as calls-of, loops, frames}
+use Rattle.jobs.proofs.Setting.{R, S, rowsTy, leaves, rules, calls as calls-of, loops, frames}
 use Rattle.jobs.proofs.Runs.{Typed, PairOf, gets, gets-pair, free-at}
 use Rattle.jobs.proofs.Copies.{copies}
 use Rattle.jobs.proofs.Shared.{LentShared, lends-shared, unshared}
-use Rattle.jobs.proofs.Puts.{leaves, Last, writes}
+use Rattle.jobs.proofs.Puts.{Last, writes}
 use Rattle.jobs.proofs.rows.copy_out.Symbol.{name as #copy-out}
 use Rattle.jobs.proofs.rows.put_back.Symbol.{name as #put-back}
 use Rattle.jobs.proofs.by_value.move_list as g

@@ -45,9 +45,9 @@ use Rattle.jobs.proofs.by_value.ReadRows as B
 use Rattle.jobs.proofs.by_value.ReadRows.Laws as B′
 use Rattle.jobs.proofs.rows.Rows as P
 use Rattle.jobs.proofs.rows.Rows.Laws as P′
-use Rattle.jobs.proofs.Setting.{R, S, rules, calls as calls-of, loops, frames}
+use Rattle.jobs.proofs.Setting.{R, S, leaves, rules, calls as calls-of, loops, frames}
 use Rattle.jobs.proofs.Runs.{Typed, PairOf, gets, gets-pair, free-at}
-use Rattle.jobs.proofs.Puts.{leaves, Last, writes}
+use Rattle.jobs.proofs.Puts.{Last, writes}
 use Rattle.jobs.proofs.rows.put_back.Symbol.{name as #put-back}
 use Rattle.jobs.proofs.by_value.read as g
 use Rattle.jobs.proofs.by_value.read.Symbol as g-def
