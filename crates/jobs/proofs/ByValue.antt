@@ -11,7 +11,7 @@ use Rattle.dayfile.specs.Reader.{Read}
 use Rattle.jobs.specs.declared.rows.Rows.{Rows}
 use Rattle.jobs.specs.Rows.{releases-in, deadlines-in, Placed, zeros}
 use Rattle.jobs.specs.ByValue.{places, blank}
-use Rattle.jobs.proofs.Copied.{put-few}
+use Rattle.jobs.proofs.Put.{put-few}
 
 -- the columns that were moved are the columns of rows that hold them before what they held beyond
 pub moved-columns : {by : ℤ} {rows : Rows} {releases deadlines : List ℕ} → Placed rows → RowsMoved by (releases-in rows) (deadlines-in rows) releases deadlines

@@ -32,7 +32,7 @@ use denote.Triple.Table.{entered}
 use Rattle.day.proofs.Day as D
 use Rattle.day.proofs.Day.Laws as D′
 use Rattle.jobs.specs.Rows.{rows-of, Placed}
-use Rattle.jobs.proofs.Columns.{rows-placed}
+use Rattle.jobs.proofs.Copied.{rows-placed}
 use Rattle.jobs.proofs.Setting.{R, S, rowsTy, listTy, rules, calls, loops, frames}
 use Rattle.jobs.proofs.Runs.{Typed, gets}
 use Rattle.jobs.proofs.Copies.{copies}

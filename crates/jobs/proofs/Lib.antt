@@ -1,15 +1,14 @@
 pub mod Copied
-pub mod Columns
 pub mod Put
-pub mod TooMany
 pub mod ByValue
+pub mod TooMany
 pub mod Promises
 pub mod PutPromises
 pub mod Setting
 pub mod Runs
+pub mod Counted
 pub mod Copies
 pub mod Handed
 pub mod Shared
 pub mod Puts
 pub mod Unique
-pub mod Counted

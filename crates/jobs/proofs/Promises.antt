@@ -30,7 +30,7 @@ use Rattle.jobs.specs.Plans.{PlannedColumns}
 use Rattle.jobs.specs.Slot.{SlotNumbered}
 use Rattle.jobs.specs.Rows.{rows-of, releases-in, deadlines-in, windows-in}
 use Rattle.jobs.specs.Columns.{releases, deadlines, windows-of}
-use Rattle.jobs.proofs.Columns.{few-releases, few-deadlines, many-rows}
+use Rattle.jobs.proofs.Copied.{few-releases, few-deadlines, many-rows}
 use Rattle.jobs.proofs.TooMany.{Alike, alike-stops, alike-first, counts-alike, lists-alike}
 
 -- where it is promised of any more than 40 rows alike

@@ -3,16 +3,32 @@ use Prim.Native.Nat.{ℕ, zero, suc, _<_, _≤_}
 use mathlib.Core.Path.{_≡_, refl, sym, _∙_, ap}
 use mathlib.Core.List.{List, map}
 use native.Mathlib.Omega.{arith}
-use lib.ListN.{length, getD, set, length-map}
+use lib.Dec.{ltb}
+use lib.ListN.{length, getD, length-map, length-set}
 use lib.Seq.{getD-set-same, getD-set-other}
-use borrow.Author.Tests.{le-ltb}
-use Rattle.day.proofs.Cases.{on-eq}
+use borrow.Author.Tests.{le-ltb, ltb-true, ltb-false}
+use Rattle.day.proofs.Cases.{on, on-eq}
 use Rattle.day.specs.declared.Job.{Job}
 use Rattle.day.specs.Windows.{at}
 use Rattle.jobs.specs.declared.rows.Rows.{Rows}
 use Rattle.jobs.specs.Rows.{none, put-count, put-first, put-over, job-at}
-use Rattle.jobs.proofs.Copied.{put-length}
-use Rattle.jobs.proofs.Columns.{at-column}
+use Rattle.jobs.proofs.Copied.{at-column}
+
+pub put-within : (places count m : ℕ) → m ≡ put-count places count → m ≤ places
+put-within places count m e =
+    on (ltb 41 count) (λ h. omega (arith, rw h at e))
+    (λ h. on (ltb places count) (λ g. omega (arith, rw (h, g) at e)) (λ g. omega (arith, rw (h, g) at e, ltb-false places count g)))
+
+pub put-few : (places count m : ℕ) → m ≡ put-count places count → m ≤ 41
+put-few places count m e =
+    on (ltb 41 count) (λ h. omega (arith, rw h at e))
+    (λ h.
+    on (ltb places count) (λ g. omega (arith, rw (h, g) at e, ltb-false 41 count h, ltb-true places count g))
+    (λ g. omega (arith, rw (h, g) at e, ltb-false 41 count h)))
+
+pub put-length : (k : ℕ) (jobs : List Job) (rows : Rows) → length (put-first k jobs rows) ≡ length jobs
+put-length zero jobs rows = refl
+put-length (suc k) jobs rows = length-set (put-first k jobs rows) k (job-at rows k) ∙ put-length k jobs rows
 
 pub put-none : (jobs : List Job) (rows : Rows) → rows .count ≡ 0 → put-over jobs rows ≡ jobs
 put-none jobs rows e = ap (λ (c : ℕ). put-first (put-count (length jobs) c) jobs rows) e ∙ rw (le-ltb (length jobs) 0 (omega arith))

@@ -29,9 +29,8 @@ use Rattle.jobs.specs.declared.by_value.ReadRows.{ReadRows}
 use Rattle.jobs.specs.Rows.{none, rows-of, releases-in, deadlines-in, windows-in, put-over, job-at, zeros}
 use Rattle.jobs.specs.Columns.{releases, deadlines, windows-of}
 use Rattle.jobs.specs.ByValue.{MovesRows, places, blank, ReadsRows}
-use Rattle.jobs.proofs.Columns.{few-count, few-releases, few-deadlines, many-rows}
-use Rattle.jobs.proofs.Copied.{put-few, put-within}
-use Rattle.jobs.proofs.Put.{put-none, put-long, put-rows, put-rest}
+use Rattle.jobs.proofs.Copied.{few-count, few-releases, few-deadlines, many-rows}
+use Rattle.jobs.proofs.Put.{put-few, put-within, put-none, put-long, put-rows, put-rest}
 use Rattle.jobs.proofs.TooMany.{Alike, alike-stops, alike-first, alike-next, map-next, jobs-alike}
 use Rattle.jobs.proofs.Promises.{listed}
 

@@ -46,7 +46,7 @@ use Rattle.jobs.specs.declared.rows.Rows.{Rows}
 use Rattle.jobs.specs.declared.by_value.MovedRows.{MovedRows}
 use Rattle.jobs.specs.Rows.{rows-of, put-over, Placed}
 use Rattle.jobs.specs.ByValue.{MovesRows}
-use Rattle.jobs.proofs.Columns.{rows-placed}
+use Rattle.jobs.proofs.Copied.{rows-placed}
 use Rattle.jobs.proofs.PutPromises.{list-moved}
 use Rattle.jobs.proofs.by_value.MovedRows as B
 use Rattle.jobs.proofs.by_value.MovedRows.Laws as B′

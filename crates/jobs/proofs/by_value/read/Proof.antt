@@ -3,7 +3,7 @@ use mathlib.Core.Path.{sym}
 use borrow.Author.Needs.{needs}
 use lib.Seq.{length-take-le}
 use Rattle.jobs.specs.Rows.{zeros}
-use Rattle.jobs.proofs.Copied.{put-few}
+use Rattle.jobs.proofs.Put.{put-few}
 use Rattle.jobs.proofs.ByValue.{read-columns}
 use Rattle.jobs.proofs.by_value.read.Statement.{statement}
 use Rattle.jobs.proofs.by_value.read.Tie as tie

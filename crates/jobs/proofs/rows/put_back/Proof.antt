@@ -50,7 +50,7 @@ use Rattle.day.proofs.Job as T
 use Rattle.day.proofs.Job.Laws as T′
 use Rattle.jobs.specs.declared.rows.Rows.{Rows}
 use Rattle.jobs.specs.Rows.{none, put-count, put-first, put-over, job-at}
-use Rattle.jobs.proofs.Copied.{put-within, put-few, put-length}
+use Rattle.jobs.proofs.Put.{put-within, put-few, put-length}
 use Rattle.jobs.proofs.Setting.{R, S, machine, leaves}
 use Rattle.jobs.proofs.Runs.{free-at, free-room}
 use Rattle.jobs.proofs.Counted.{counts, has, asks}
