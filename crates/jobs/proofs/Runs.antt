@@ -41,11 +41,11 @@ module _ {M : Type 1} {𝓤 : URA M} {H : Heap 𝓤} {A : Atoms 𝓤} {K : Type 
       → Step K W (del 𝓤 H A n (del 𝓤 H A (suc n) Γ)) (frees E g) Γ (frees ((τ, b) ∷ E) g)
   free-by t n {τ} {b} dies is-room = step (λ s. record {
     prf =
-      via 𝓤 (sep 𝓤 (H .dies τ b) (⋆ 𝓤 H A others)) (subst (λ (i : Item 𝓤). ent 𝓤 (⋆ 𝓤 H A Γ) (sep 𝓤 (mean 𝓤 H A i) (⋆ 𝓤 H A others))) dies (pull 𝓤 H A (suc n) Γ))
-      (via 𝓤 (sep 𝓤 (H .dies τ b) (sep 𝓤 (H .room τ b 0) (⋆ 𝓤 H A rest)))
+        via 𝓤 (sep 𝓤 (H .dies τ b) (⋆ 𝓤 H A others)) (subst (λ (i : Item 𝓤). ent 𝓤 (⋆ 𝓤 H A Γ) (sep 𝓤 (mean 𝓤 H A i) (⋆ 𝓤 H A others))) dies (pull 𝓤 H A (suc n) Γ))
+        (via 𝓤 (sep 𝓤 (H .dies τ b) (sep 𝓤 (H .room τ b 0) (⋆ 𝓤 H A rest)))
         (monoR 𝓤 (H .dies τ b) (via 𝓤 (sep 𝓤 (mean 𝓤 H A (nth 𝓤 H A n others)) (⋆ 𝓤 H A rest)) (pull 𝓤 H A n others) (monoL 𝓤 (⋆ 𝓤 H A rest) is-room)))
-      (via 𝓤 (sep 𝓤 (sep 𝓤 (H .dies τ b) (H .room τ b 0)) (⋆ 𝓤 H A rest)) (assoc′ 𝓤 (H .dies τ b) (H .room τ b 0) (⋆ 𝓤 H A rest))
-      (via 𝓤 (sep 𝓤 (sep 𝓤 (H .room τ b 0) (H .dies τ b)) (⋆ 𝓤 H A rest)) (monoL 𝓤 (⋆ 𝓤 H A rest) (comm∗ 𝓤 (H .dies τ b) (H .room τ b 0)))
+        (via 𝓤 (sep 𝓤 (sep 𝓤 (H .dies τ b) (H .room τ b 0)) (⋆ 𝓤 H A rest)) (assoc′ 𝓤 (H .dies τ b) (H .room τ b 0) (⋆ 𝓤 H A rest))
+        (via 𝓤 (sep 𝓤 (sep 𝓤 (H .room τ b 0) (H .dies τ b)) (⋆ 𝓤 H A rest)) (monoL 𝓤 (⋆ 𝓤 H A rest) (comm∗ 𝓤 (H .dies τ b) (H .room τ b 0)))
         (monoR 𝓤 (sep 𝓤 (H .room τ b 0) (H .dies τ b)) (s .prf)))));
   })
     where
