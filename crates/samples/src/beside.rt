@@ -18,7 +18,7 @@ pub struct Beside {
 }
 
 // Plans a list of at most 5 rows both ways. The slow search's plan goes to the first places of `best`, which are untouched so far.
-pub fn plan(
+pub(crate) fn plan(
     day: Day,
     releases: &[u16],
     deadlines: &[u16],
@@ -53,7 +53,7 @@ fn searched(day: Day, releases: &[u16], deadlines: &[u16], best: &mut [u16]) -> 
 }
 
 // Whether pricing, ledger and slot records say of a claimed plan what direct counting says.
-pub fn claimed(day: Day, releases: &[u16], deadlines: &[u16], starts: &[u16]) -> bool {
+pub(crate) fn claimed(day: Day, releases: &[u16], deadlines: &[u16], starts: &[u16]) -> bool {
     let expected = direct::judged(day, releases, deadlines, starts);
     if !same_answer(claim::price(day, releases, deadlines, starts), expected) {
         return false;
@@ -139,7 +139,7 @@ fn number(fill: Fill) -> u16 {
 }
 
 // Whether the choice between two claimed plans is what their prices say.
-pub fn chosen<'a>(
+pub(crate) fn chosen<'a>(
     day: Day,
     releases: &[u16],
     deadlines: &[u16],
@@ -178,11 +178,11 @@ fn winner(own: Answer, server: Answer) -> Answer {
     direct::names(code::DONE, 2, 0)
 }
 
-pub fn same_answer(a: Answer, b: Answer) -> bool {
+pub(crate) fn same_answer(a: Answer, b: Answer) -> bool {
     a.code == b.code && a.first == b.first && a.second == b.second
 }
 
-pub fn same_numbers(a: &[u16], b: &[u16]) -> bool {
+pub(crate) fn same_numbers(a: &[u16], b: &[u16]) -> bool {
     a.len() == b.len() && starts_with(a, b)
 }
 

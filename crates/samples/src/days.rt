@@ -17,7 +17,7 @@ pub struct Tally {
     pub differ: u64,
 }
 
-pub fn none() -> Tally {
+pub(crate) fn none() -> Tally {
     Tally {
         days: 0,
         refused: 0,
@@ -26,7 +26,7 @@ pub fn none() -> Tally {
     }
 }
 
-pub fn day_of(slots: u16, wake: u16) -> Day {
+pub(crate) fn day_of(slots: u16, wake: u16) -> Day {
     let power = Power { wake };
     Day { slots, power }
 }
@@ -37,7 +37,7 @@ fn first(list: &[u16; 5], count: usize) -> &[u16] {
 }
 
 // Every list of up to 3 jobs in up to 4 slots, for every wake cost up to 4.
-pub fn all_small(so_far: Tally, table: &mut [u16]) -> Tally {
+pub(crate) fn all_small(so_far: Tally, table: &mut [u16]) -> Tally {
     let mut tally = so_far;
     let mut kind: u16 = 0;
     while kind < 80 {
@@ -94,7 +94,7 @@ fn put_list(
 }
 
 // A pseudo-random set of up to 5 jobs in up to 9 slots.
-pub fn random(so_far: Tally, table: &mut [u16]) -> Tally {
+pub(crate) fn random(so_far: Tally, table: &mut [u16]) -> Tally {
     let mut tally = so_far;
     let mut number: u64 = 0;
     while number < 4000 {

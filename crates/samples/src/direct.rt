@@ -20,7 +20,7 @@ pub const AFTER: u16 = 3;
 pub const JOB: u16 = 4;
 
 // A sum; 30,000 where a part is as much.
-pub fn plus(a: u16, b: u16) -> u16 {
+pub(crate) fn plus(a: u16, b: u16) -> u16 {
     if a < 30000 {
         if b < 30000 {
             return a + b;
@@ -30,7 +30,7 @@ pub fn plus(a: u16, b: u16) -> u16 {
 }
 
 // The first `count` numbers of a list; all of it where there are fewer.
-pub fn part(list: &[u16], count: usize) -> &[u16] {
+pub(crate) fn part(list: &[u16], count: usize) -> &[u16] {
     if count < list.len() {
         return &list[..count];
     }
@@ -46,7 +46,7 @@ fn from_one(row: usize) -> u16 {
 }
 
 // The first row with r ≥ d or d > T, counted from 1; 0 where there is none.
-pub fn bad_row(slots: u16, releases: &[u16], deadlines: &[u16]) -> u16 {
+pub(crate) fn bad_row(slots: u16, releases: &[u16], deadlines: &[u16]) -> u16 {
     let mut row = 0;
     while row < releases.len() {
         let deadline = at_or_zero(deadlines, row);
@@ -84,7 +84,7 @@ fn partner(starts: &[u16], row: usize) -> u16 {
 }
 
 // The first row that has a partner, counted from 1; 0 where there is none.
-pub fn clash(starts: &[u16]) -> u16 {
+pub(crate) fn clash(starts: &[u16]) -> u16 {
     let mut row = 0;
     while row < starts.len() {
         if partner(starts, row) != 0 {
@@ -135,7 +135,7 @@ fn next_job(starts: &[u16], slot: u16) -> u16 {
 }
 
 // How many slots lie from one slot to another.
-pub fn between(from: u16, to: u16) -> u16 {
+pub(crate) fn between(from: u16, to: u16) -> u16 {
     if from < to {
         return to - from;
     }
@@ -151,7 +151,7 @@ fn price(power: Power, gap: u16) -> u16 {
 }
 
 // The cost: for each job that has one before it, the price of the empty slots between the two.
-pub fn cost(power: Power, starts: &[u16]) -> u16 {
+pub(crate) fn cost(power: Power, starts: &[u16]) -> u16 {
     let mut cost = 0;
     let mut row = 0;
     while row < starts.len() {
@@ -165,7 +165,7 @@ pub fn cost(power: Power, starts: &[u16]) -> u16 {
 }
 
 // What fills a slot.
-pub fn fill(power: Power, starts: &[u16], slot: u16) -> u16 {
+pub(crate) fn fill(power: Power, starts: &[u16], slot: u16) -> u16 {
     let row = row_at(starts, slot);
     if row > 0 {
         return plus(JOB, row);
@@ -185,7 +185,7 @@ pub fn fill(power: Power, starts: &[u16], slot: u16) -> u16 {
 }
 
 // How many slots are filled so; every job counts as JOB.
-pub fn filled(day: Day, starts: &[u16], by: u16) -> u16 {
+pub(crate) fn filled(day: Day, starts: &[u16], by: u16) -> u16 {
     let mut count = 0;
     let mut slot = 0;
     while slot < day.slots {
@@ -198,7 +198,7 @@ pub fn filled(day: Day, starts: &[u16], by: u16) -> u16 {
     count
 }
 
-pub fn names(code: u16, first: u16, second: u16) -> Answer {
+pub(crate) fn names(code: u16, first: u16, second: u16) -> Answer {
     Answer {
         code,
         first,
@@ -207,7 +207,7 @@ pub fn names(code: u16, first: u16, second: u16) -> Answer {
 }
 
 // What pricing answers for a day with slots and a wake cost within the limits.
-pub fn judged(day: Day, releases: &[u16], deadlines: &[u16], starts: &[u16]) -> Answer {
+pub(crate) fn judged(day: Day, releases: &[u16], deadlines: &[u16], starts: &[u16]) -> Answer {
     let bad = bad_row(day.slots, releases, deadlines);
     if bad > 0 {
         return names(code::BAD_ROW, bad, 0);

@@ -1,17 +1,17 @@
 // Numbers drawn by a key, the same in every run.
 
 // The next key or count; 0 after the last.
-pub fn next(key: u64) -> u64 {
+pub(crate) fn next(key: u64) -> u64 {
     std::num::wrapping_add_u64(key, 1)
 }
 
 // The key of the claims for a day.
-pub fn key(day: u64) -> u64 {
+pub(crate) fn key(day: u64) -> u64 {
     scrambled(day)
 }
 
 // One of the numbers below `count`; 0 where there is none.
-pub fn below(count: u16, key: u64) -> u16 {
+pub(crate) fn below(count: u16, key: u64) -> u16 {
     digit(scrambled(scrambled(key)) / 256, count)
 }
 
@@ -22,7 +22,7 @@ fn scrambled(key: u64) -> u64 {
 }
 
 // The last digit of a number in a base.
-pub fn digit(number: u64, base: u16) -> u16 {
+pub(crate) fn digit(number: u64, base: u16) -> u16 {
     if base == 0 {
         return 0;
     }
@@ -30,7 +30,7 @@ pub fn digit(number: u64, base: u16) -> u16 {
 }
 
 // The number without its last digit.
-pub fn rest(number: u64, base: u16) -> u64 {
+pub(crate) fn rest(number: u64, base: u16) -> u64 {
     if base == 0 {
         return 0;
     }

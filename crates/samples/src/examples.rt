@@ -518,7 +518,7 @@ fn of_files(row: usize, column: usize) -> u16 {
 }
 
 // Runs every example.
-pub fn run(table: &mut [u16]) -> Score {
+pub(crate) fn run(table: &mut [u16]) -> Score {
     let none = Score {
         run: 0,
         wrong: 0,

@@ -3,12 +3,12 @@ use day::Day;
 use day::at_or_zero;
 use libc::STDOUT_FILENO;
 
-pub fn word(word: &[u8]) {
+pub(crate) fn word(word: &[u8]) {
     io::write_all(STDOUT_FILENO, word);
 }
 
 // A word, a number, and the line's end.
-pub fn line(word: &[u8], number: u64) {
+pub(crate) fn line(word: &[u8], number: u64) {
     io::write_all(STDOUT_FILENO, word);
     io::print_decimal(STDOUT_FILENO, number);
     io::write_all(STDOUT_FILENO, b"\n");
@@ -19,7 +19,7 @@ fn wide(number: u16) -> u64 {
 }
 
 // The first day with a difference.
-pub fn day(day: Day, releases: &[u16], deadlines: &[u16]) {
+pub(crate) fn day(day: Day, releases: &[u16], deadlines: &[u16]) {
     line(b"first difference: slots ", wide(day.slots));
     line(b"wake ", wide(day.power.wake));
     let mut row = 0;

@@ -10,7 +10,7 @@ pub struct Found {
 }
 
 // Looks at every start vector; `starts` has a place for each row, and the plan found goes to the first places of `best`.
-pub fn search(
+pub(crate) fn search(
     power: Power,
     releases: &[u16],
     deadlines: &[u16],
