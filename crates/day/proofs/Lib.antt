@@ -3,6 +3,7 @@ pub mod Cases
 pub mod Refusal
 pub mod Check
 pub mod Zero
+pub mod FirstFilled
 pub mod Numbering
 pub mod Span
 pub mod Plan

@@ -11,3 +11,4 @@ pub mod Answer
 pub mod Refusal
 pub mod Check
 pub mod Zero
+pub mod FirstFilled

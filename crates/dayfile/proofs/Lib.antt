@@ -2,7 +2,6 @@
 pub mod Stores
 pub mod Format
 pub mod Refusals
-pub mod Fills
 pub mod Stands
 pub mod Reader
 pub mod Writer

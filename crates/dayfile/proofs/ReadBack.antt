@@ -13,13 +13,13 @@ use Rattle.day.specs.Windows.{Windows, windows}
 use Rattle.day.specs.Check.{most-jobs}
 use Rattle.day.proofs.Cases.{give}
 use Rattle.day.proofs.Refusal.{then-next}
+use Rattle.day.proofs.FirstFilled.{filled-as}
 use Rattle.dayfile.specs.declared.Reading.{Reading}
 use Rattle.dayfile.specs.Format.{rows, rows-and-trailer, distance-back, count-in, slots-in, wake-in, distance-in, Marked, release-in, deadline-in}
 use Rattle.dayfile.specs.Reader.{FileCheck, Read}
 use Rattle.dayfile.specs.Writer.{file-length, Stored, Written}
 use Rattle.dayfile.specs.ReadBack.{ReadBack}
 use Rattle.dayfile.proofs.Format.{length-rows, length-rows-and-trailer}
-use Rattle.dayfile.proofs.Fills.{fills-cong}
 use Rattle.dayfile.proofs.Reader.{day-ext}
 use Rattle.dayfile.proofs.Stores.{stored-length}
 use Rattle.dayfile.proofs.Stands.{Stands, stored-stands, stands-first, stands-next, rows-stand, trailer-stands}
@@ -85,8 +85,8 @@ reading-undoes-writing {m} {day} {releases} {deadlines} {file} {file-after} {xs}
       answer = accepted;
       count = given .count ∙ s .count;
       same-day = day-ext (r .day) day (given .slots ∙ s .slots) (given .wake ∙ s .wake);
-      same-releases = fills-cong (s .count) (s .release) (given .first-releases);
-      same-deadlines = fills-cong (s .count) (s .deadline) (given .first-deadlines);
+      same-releases = filled-as (s .count) (λ i y h p. p ∙ s .release i h) (given .first-releases);
+      same-deadlines = filled-as (s .count) (λ i y h p. p ∙ s .deadline i h) (given .first-deadlines);
     }))))
   where
     file-says : Writable m (length releases) (length file) → Says (take (file-length m (length releases)) file-after) day (windows releases deadlines)

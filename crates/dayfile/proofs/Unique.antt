@@ -8,10 +8,10 @@ use Rattle.day.specs.declared.Day.{Day}
 use Rattle.day.specs.Answer.{done}
 use Rattle.day.proofs.Cases.{on-eq, give}
 use Rattle.day.proofs.Refusal.{refuses-is-check, then-unique}
+use Rattle.day.proofs.FirstFilled.{filled-unique}
 use Rattle.dayfile.specs.declared.Reading.{Reading}
 use Rattle.dayfile.specs.Reader.{no-reading, FileCheck, Read}
 use Rattle.dayfile.specs.Writer.{RoomCheck, Written}
-use Rattle.dayfile.proofs.Fills.{fills-unique}
 use Rattle.dayfile.proofs.Reader.{day-ext}
 
 pub file-check-unique : (file : List ℕ) (room : ℕ) (a b : Answer) → FileCheck file room a → FileCheck file room b → a ≡ b
@@ -48,8 +48,8 @@ read-unique {file = file} {r = r} {q = q} p s =
     give (s .accepted (sym code ∙ e))
     (λ v. (
       reading-ext r q same (u .count ∙ sym (v .count)) (day-ext (r .day) (q .day) (u .slots ∙ sym (v .slots)) (u .wake ∙ sym (v .wake))),
-      fills-unique (u .first-releases) (v .first-releases),
-      fills-unique (u .first-deadlines) (v .first-deadlines),
+      filled-unique (λ i y z e f. e ∙ sym f) (u .first-releases) (v .first-releases),
+      filled-unique (λ i y z e f. e ∙ sym f) (u .first-deadlines) (v .first-deadlines),
     ))))
     (λ h.
     give (p .refused h)

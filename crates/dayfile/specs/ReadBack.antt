@@ -7,12 +7,12 @@ use Rattle.day.specs.declared.Day.{Day}
 use Rattle.day.specs.Windows.{at}
 use Rattle.day.specs.Answer.{says, done}
 use Rattle.dayfile.specs.declared.Reading.{Reading}
-use Rattle.dayfile.specs.Reader.{Fills}
+use Rattle.dayfile.specs.Reader.{FilledFrom}
 
 -- releases and deadlines were written; xs and ys were lent to the reader, and are xs-after and ys-after afterwards
 pub record ReadBack (day : Day) (releases deadlines xs ys : List ℕ) (r : Reading) (xs-after ys-after : List ℕ) : Type 0 where
   pub answer : r .answer ≡ says done 0 0
   pub count : r .count ≡ length releases
   pub same-day : r .day ≡ day
-  pub same-releases : Fills (length releases) (at releases) xs xs-after
-  pub same-deadlines : Fills (length releases) (at deadlines) ys ys-after
+  pub same-releases : FilledFrom (length releases) (at releases) xs xs-after
+  pub same-deadlines : FilledFrom (length releases) (at deadlines) ys ys-after

@@ -1,13 +1,13 @@
 -- What the reader promises. T, L and windows are not judged, and the notes are not looked at.
-use Prim.Native.Nat.{ℕ, _<_, _≤_, min}
+use Prim.Native.Nat.{ℕ, _<_, min}
 use mathlib.Core.Path.{_≡_}
 use mathlib.Core.List.{List}
 use lib.ListN.{length}
 use Rattle.day.specs.declared.Answer.{Answer}
-use Rattle.day.specs.Windows.{at}
 use Rattle.day.specs.Answer.{done, too-many-jobs, short-file, wrong-mark, wrong-distance, cut-file, few-rows}
 use Rattle.day.specs.Refusal.{_then_, Refuses, Passed}
 use Rattle.day.specs.Check.{most-jobs}
+use Rattle.day.specs.FirstFilled.{FirstFilled}
 use Rattle.dayfile.specs.declared.Reading.{Reading}
 use Rattle.dayfile.specs.Format.{distance-back, count-in, slots-in, wake-in, distance-in, Marked, release-in, deadline-in}
 
@@ -16,10 +16,8 @@ abbrev pub no-reading : Answer → Reading
 no-reading answer = record { answer = answer; count = 0; day = record { slots = 0; power = record { wake = 0 } } }
 
 -- ys is xs with the first n places filled from f, and nothing more
-pub record Fills (n : ℕ) (f : ℕ → ℕ) (xs ys : List ℕ) : Type 0 where
-  pub as-long : length ys ≡ length xs
-  pub filled : (i : ℕ) → i < n → at ys i ≡ f i
-  pub rest : (i : ℕ) → n ≤ i → at ys i ≡ at xs i
+abbrev pub FilledFrom : ℕ → (ℕ → ℕ) → List ℕ → List ℕ → Type 0
+FilledFrom n f xs ys = FirstFilled n (λ i y. y ≡ f i) xs ys
 
 -- codes 8, 9, 3, 10, 11, 12, for a reader with room for `room` rows
 abbrev pub FileCheck : List ℕ → ℕ → Answer → Type 0
@@ -37,8 +35,8 @@ pub record RowsRead (file releases deadlines : List ℕ) (r : Reading) (releases
   pub count : r .count ≡ count-in file
   pub slots : r .day .slots ≡ slots-in file
   pub wake : r .day .power .wake ≡ wake-in file
-  pub first-releases : Fills (count-in file) (release-in file) releases releases-after
-  pub first-deadlines : Fills (count-in file) (deadline-in file) deadlines deadlines-after
+  pub first-releases : FilledFrom (count-in file) (release-in file) releases releases-after
+  pub first-deadlines : FilledFrom (count-in file) (deadline-in file) deadlines deadlines-after
 
 -- what a refused file gives: nothing
 pub record NothingRead (releases deadlines : List ℕ) (r : Reading) (releases-after deadlines-after : List ℕ) : Type 0 where

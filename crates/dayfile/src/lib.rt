@@ -12,7 +12,7 @@ ghost use lib.ListN.{length};
 ghost use Rattle.day.specs.Windows.{windows};
 ghost use Rattle.dayfile.specs.Bytes.{bytes-of, number-at};
 ghost use Rattle.dayfile.specs.Format.{row, rows, trailer, slots-in, wake-in, column};
-ghost use Rattle.dayfile.specs.Reader.{no-reading, Fills, FileCheck, Read};
+ghost use Rattle.dayfile.specs.Reader.{no-reading, FilledFrom, FileCheck, Read};
 ghost use Rattle.dayfile.specs.Writer.{RoomCheck, Stored, Written};
 
 // A row's bytes: release and deadline.
@@ -116,7 +116,7 @@ fn check_file(file: &[u8], room: usize) -> Answer
 // Fills the first `count` places of `list` with one number of each row; the first row's stands at the byte `from`.
 fn read_column(file: &[u8], from: usize, count: usize, list: &mut [u16])
     requires { ⌜ (from + 4 * count ≤ length (now file)) × (count ≤ length (now list)) ⌝ }
-    ensures { λ _. ⌜ Fills count (column (now (file .entry)) from) (now (list .entry)) (now (list .exit)) ⌝ }
+    ensures { λ _. ⌜ FilledFrom count (column (now (file .entry)) from) (now (list .entry)) (now (list .exit)) ⌝ }
 {
     let mut i = 0;
     let mut place = from;

@@ -20,7 +20,7 @@ use Rattle.moving.specs.Moving.{MoveCheck, RowsMoved, MovedList}
 use Rattle.moving.proofs.Moving.{move-is-check}
 use Rattle.dayfile.specs.declared.Reading.{Reading}
 use Rattle.dayfile.specs.Format.{count-in, release-in, deadline-in}
-use Rattle.dayfile.specs.Reader.{FileCheck, Fills, RowsRead, Read}
+use Rattle.dayfile.specs.Reader.{FileCheck, FilledFrom, RowsRead, Read}
 use Rattle.dayfile.proofs.Reader.{readable}
 use Rattle.day.proofs.Refusal.{no-fault}
 use Rattle.jobs.specs.declared.rows.Rows.{Rows}
@@ -95,7 +95,7 @@ places-enough : (n c : ℕ) → c ≤ most-jobs → places n < c → n < c
 places-enough n c h = on-le 41 n (λ l. rw (le-ltb n 41 l) (λ z. absurd (omega arith))) (λ l. rw (lt-ltb n 41 l) (λ z. z))
 
 put-filled : (jobs : List Job) (rows : Rows) → rows .count ≤ 41 → rows .count ≤ length jobs → (f : Job → ℕ) → f none ≡ 0 → (g : ℕ → ℕ) → ((i : ℕ) → i < rows .count → f (job-at rows i) ≡ g i)
-    → Fills (rows .count) g (map f jobs) (map f (put-over jobs rows))
+    → FilledFrom (rows .count) g (map f jobs) (map f (put-over jobs rows))
 put-filled jobs rows placed room f e g h =
     record {
       as-long = put-long jobs rows f;
@@ -126,8 +126,8 @@ module _ (jobs : List Job) (file : List ℕ) (r : ReadRows) (p : ReadsRows file 
         count = read .count;
         slots = read .slots;
         wake = read .wake;
-        first-releases = subst (λ (c : ℕ). Fills c (release-in file) (releases jobs) (releases filled)) count (put-filled jobs (r .rows) few room (λ job. job .release) refl (release-in file) (λ i l. sym (getD-take (places (length jobs)) (r .rows .releases) i 0 (omega arith)) ∙ read .first-releases .filled i (omega arith)));
-        first-deadlines = subst (λ (c : ℕ). Fills c (deadline-in file) (deadlines jobs) (deadlines filled)) count (put-filled jobs (r .rows) few room (λ job. job .deadline) refl (deadline-in file) (λ i l. sym (getD-take (places (length jobs)) (r .rows .deadlines) i 0 (omega arith)) ∙ read .first-deadlines .filled i (omega arith)));
+        first-releases = subst (λ (c : ℕ). FilledFrom c (release-in file) (releases jobs) (releases filled)) count (put-filled jobs (r .rows) few room (λ job. job .release) refl (release-in file) (λ i l. sym (getD-take (places (length jobs)) (r .rows .releases) i 0 (omega arith)) ∙ read .first-releases .filled i (omega arith)));
+        first-deadlines = subst (λ (c : ℕ). FilledFrom c (deadline-in file) (deadlines jobs) (deadlines filled)) count (put-filled jobs (r .rows) few room (λ job. job .deadline) refl (deadline-in file) (λ i l. sym (getD-take (places (length jobs)) (r .rows .deadlines) i 0 (omega arith)) ∙ read .first-deadlines .filled i (omega arith)));
       })))
 
   pub list-read : Read file (releases jobs) (deadlines jobs) (r .reading) (releases filled) (deadlines filled)

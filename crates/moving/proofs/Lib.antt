@@ -1,6 +1,5 @@
 -- The laws of moving a list.
 pub mod Signs
-pub mod Firsts
 pub mod Moving
 pub mod Ends
 pub mod Unique

@@ -104,7 +104,7 @@ pub rows-moved : {by : ℤ} {releases deadlines releases-after deadlines-after :
     → RowsMoved by releases deadlines releases-after deadlines-after
 rows-moved r d =
     record {
-      rows = record { count = r .as-long; release = r .moved; deadline = d .moved };
+      rows = record { count = r .as-long; release = r .filled; deadline = d .filled };
       as-long = d .as-long;
       surplus = d .rest;
     }

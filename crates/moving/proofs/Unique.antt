@@ -5,8 +5,7 @@ use mathlib.Core.List.{List, []}
 use mathlib.Core.Logic.{⊎-elim}
 use native.Mathlib.Nat.{add-zero}
 use native.Mathlib.Omega.{arith}
-use lib.ListN.{length}
-use lib.Seq.{ext-getD}
+use lib.ListN.{length, List·getD-eq-default}
 use lib.IntN.{ℤ, pos}
 use Rattle.day.specs.declared.Answer.{Answer}
 use Rattle.day.specs.Windows.{Windows, at, windows}
@@ -14,27 +13,35 @@ use Rattle.day.specs.Change.{Shifts}
 use Rattle.day.specs.Answer.{says, done, leaves-day}
 use Rattle.day.specs.Refusal.{_then_, stops, goes-on, Passed}
 use Rattle.day.specs.Check.{most-slots, most-jobs, GoodRows}
-use Rattle.day.proofs.Cases.{give, on-eq, on-le}
+use Rattle.day.proofs.Cases.{give, on-eq}
 use Rattle.day.proofs.Refusal.{then-unique, then-clear}
 use Rattle.day.proofs.Check.{good-rows-clear}
+use Rattle.day.proofs.FirstFilled.{filled-unique}
 use Rattle.moving.specs.Moving.{MoveCheck, RowsMoved, MovedList}
+use Rattle.moving.specs.Steps.{FirstMoved}
 use Rattle.moving.proofs.Moving.{move-is-check}
 use Rattle.moving.proofs.Ends.{late-stays}
 
 shifts-unique : (by : ℤ) (x y z : ℕ) → Shifts by x y → Shifts by x z → y ≡ z
 shifts-unique by x y z p q = let same : pos y ≡ pos z = sym p ∙ q in cc
 
+-- past the end of the releases there is nothing to move
+releases-moved : {by : ℤ} {releases deadlines rs ds : List ℕ} → RowsMoved by releases deadlines rs ds → FirstMoved by (length releases) releases rs
+releases-moved {releases = releases} {rs = rs} u =
+    record {
+      as-long = u .rows .count;
+      filled = u .rows .release;
+      rest = λ i h. List·getD-eq-default rs 0 (omega (arith, u .rows .count)) ∙ sym (List·getD-eq-default releases 0 h);
+    }
+
+deadlines-moved : {by : ℤ} {releases deadlines rs ds : List ℕ} → RowsMoved by releases deadlines rs ds → FirstMoved by (length releases) deadlines ds
+deadlines-moved u = record { as-long = u .as-long; filled = u .rows .deadline; rest = u .surplus }
+
 rows-moved-unique : {by : ℤ} {releases deadlines rs ds rs-other ds-other : List ℕ} → RowsMoved by releases deadlines rs ds
     → RowsMoved by releases deadlines rs-other ds-other → (rs ≡ rs-other) × (ds ≡ ds-other)
-rows-moved-unique {by} {releases} {deadlines} {rs} {ds} {rs-other} {ds-other} u v = (
-  ext-getD 0 rs rs-other (u .rows .count ∙ sym (v .rows .count))
-      (λ i h.
-      give (omega (arith, u .rows .count))
-      (λ (l : i < length releases). shifts-unique by (at releases i) (at rs i) (at rs-other i) (u .rows .release i l) (v .rows .release i l))),
-  ext-getD 0 ds ds-other (u .as-long ∙ sym (v .as-long))
-      (λ i h.
-      on-le (length releases) i (λ l. u .surplus i l ∙ sym (v .surplus i l))
-      (λ l. shifts-unique by (at deadlines i) (at ds i) (at ds-other i) (u .rows .deadline i l) (v .rows .deadline i l))),
+rows-moved-unique {by} {releases} {deadlines} u v = (
+  filled-unique (λ i. shifts-unique by (at releases i)) (releases-moved u) (releases-moved v),
+  filled-unique (λ i. shifts-unique by (at deadlines i)) (deadlines-moved u) (deadlines-moved v),
 )
 
 pub moved-list-unique : {slots : ℕ} {by : ℤ} {releases deadlines rs ds rs-other ds-other : List ℕ} {a b : Answer}

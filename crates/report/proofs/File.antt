@@ -16,7 +16,7 @@ use Rattle.day.proofs.Refusal.{then-clear, then-group, then-next, clear-first, 
 use Rattle.day.proofs.Check.{clear-accepted, accepted-clear}
 use Rattle.dayfile.specs.declared.Reading.{Reading}
 use Rattle.dayfile.specs.Format.{count-in, release-in, deadline-in}
-use Rattle.dayfile.specs.Reader.{Fills, FileCheck, Read}
+use Rattle.dayfile.specs.Reader.{FilledFrom, FileCheck, Read}
 use Rattle.dayfile.proofs.Refusals.{past}
 use Rattle.dayfile.proofs.Reader.{readable, day-ext}
 use Rattle.dayfile.proofs.Unique.{file-check-unique}
@@ -157,7 +157,7 @@ listed-at f (suc n) i h =
     List·getD-append (listed f n) (f n ∷ []) 0 i within ∙ listed-at f n i (omega (arith, listed-length f n)))
 
 -- the first places that the reader fills are the rows of the file
-filled-listed : (n : ℕ) (f : ℕ → ℕ) (xs ys : List ℕ) → n ≤ length xs → Fills n f xs ys → take n ys ≡ listed f n
+filled-listed : (n : ℕ) (f : ℕ → ℕ) (xs ys : List ℕ) → n ≤ length xs → FilledFrom n f xs ys → take n ys ≡ listed f n
 filled-listed n f xs ys h F =
     let long : length (take n ys) ≡ n = length-take-le n ys (omega (arith, F .as-long)) in
     ext-getD 0 (take n ys) (listed f n) (long ∙ sym (listed-length f n))

@@ -1,10 +1,12 @@
 -- `dayfile::read` meets its contract. Assumes nothing.
-use Prim.Native.Nat.{min}
-use mathlib.Core.Path.{refl}
+use Prim.Native.Nat.{ℕ, min}
+use mathlib.Core.Path.{_≡_, refl}
+use mathlib.Core.List.{List}
 use native.Mathlib.Omega.{arith}
 use lib.ListN.{length}
 use borrow.Author.Needs.{needs}
-use Rattle.dayfile.proofs.Fills.{fills-as}
+use Rattle.dayfile.specs.Format.{column}
+use Rattle.dayfile.specs.Reader.{FilledFrom}
 use Rattle.dayfile.proofs.Reader.{Readable, readable}
 use Rattle.dayfile.proofs.read.Statement.{statement}
 use Rattle.dayfile.proofs.read.Tie as tie
@@ -14,6 +16,11 @@ accepted : (c : tie.Else1) →
     let start = c .before .before .before .before .before .before .before .args in
     Readable (start .file .now) (min (length (start .releases .now)) (length (start .deadlines .now)))
 accepted c = rw (c .before .before .before .shorter .ensures) at (readable (c .if1 .left) (c .before .before .check-file .ensures))
+
+-- how many rows there are and where they begin may be said in another way
+column-as : {n m : ℕ} {xs ys : List ℕ} (file : List ℕ) (place other : ℕ) → n ≡ m → place ≡ other → FilledFrom n (column file place) xs ys
+    → FilledFrom m (column file other) xs ys
+column-as file place other e f p = rw (← e, ← f) p
 
 shorter-requires : tie.Need-shorter-requires
 shorter-requires c κs = search needs
@@ -90,9 +97,9 @@ returns-2 c =
             count = numbers .before .before .before .before .number-at .ensures;
             slots = numbers .before .day-in .ensures .0;
             wake = numbers .before .day-in .ensures .1;
-            first-releases = fills-as _ _ _ (omega (arith, numbers)) (omega (arith, numbers)) (first .read-column .ensures);
+            first-releases = column-as _ _ _ (omega (arith, numbers)) (omega (arith, numbers)) (first .read-column .ensures);
             first-deadlines =
-                fills-as _ _ _ (omega (arith, again .wide3, numbers)) (omega (arith, numbers)) (second .read-column2 .ensures);
+                column-as _ _ _ (omega (arith, again .wide3, numbers)) (omega (arith, numbers)) (second .read-column2 .ensures);
           };
       refused = λ h. absurd (h (known .if1 .left));
     }

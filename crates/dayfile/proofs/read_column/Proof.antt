@@ -2,23 +2,21 @@
 use Prim.Native.Nat.{_+_, _*_, _-_, _≤_}
 use mathlib.Core.Path.{_≡_, _∙_, ap}
 use native.Mathlib.Omega.{arith}
+use Rattle.day.proofs.FirstFilled.{filled-none, filled-next}
 use Rattle.dayfile.specs.Bytes.{number-at}
 use Rattle.dayfile.specs.Format.{column}
-use Rattle.dayfile.specs.Reader.{Fills}
-use Rattle.dayfile.proofs.Fills.{fills-none, fills-next}
+use Rattle.dayfile.specs.Reader.{FilledFrom}
 use Rattle.dayfile.proofs.read_column.Statement.{statement}
 use Rattle.dayfile.proofs.read_column.Tie as tie
 
--- `dayfile::read_column` meets its contract: at each turn the first places hold the column. Assumes nothing.
-
 abbrev Inv-loop : tie.InvT-loop
-Inv-loop file from count list₀ i₀ place₀ list i place = (i ≤ count) × (place ≡ from + 4 * i) × Fills i (column file from) list₀ list
+Inv-loop file from count list₀ i₀ place₀ list i place = (i ≤ count) × (place ≡ from + 4 * i) × FilledFrom i (column file from) list₀ list
 
 abbrev μ-loop : tie.MeasureT-loop
 μ-loop file from count list₀ i₀ place₀ list i place = count - i
 
 loop-holds : tie.Need-loop-holds Inv-loop μ-loop
-loop-holds c = (omega arith, omega arith, fills-none)
+loop-holds c = (omega arith, omega arith, filled-none)
 
 number-at-requires : tie.Need-number-at-requires Inv-loop μ-loop
 number-at-requires c κs = omega arith
@@ -44,7 +42,7 @@ loop-again c =
     let at-loop = c .before .before .loop in (
       omega arith,
       omega arith,
-      fills-next (omega arith) (c .number-at .ensures ∙ ap (number-at _) (at-loop .inv .1)) (at-loop .inv .2),
+      filled-next (at-loop .inv .2) (omega arith) (c .number-at .ensures ∙ ap (number-at _) (at-loop .inv .1)),
     )
 
 same-length : tie.Need-same-length Inv-loop μ-loop

@@ -8,8 +8,8 @@ use mir.Val.{toZ, ofZ}
 use mir.ValLaws.{toZ-ofZ}
 use Rattle.day.specs.Change.{Shifts}
 use Rattle.day.specs.Windows.{at}
+use Rattle.day.proofs.FirstFilled.{filled-none, filled-next}
 use Rattle.moving.specs.Steps.{FirstMoved}
-use Rattle.moving.proofs.Firsts.{first-none, first-next}
 use Rattle.moving.proofs.Signs.{moved-reads}
 use Rattle.moving.proofs.move_first.Statement.{statement}
 use Rattle.moving.proofs.move_first.Tie as tie
@@ -42,7 +42,7 @@ reads c =
     ∙ rw (at-loop .inv .1 .rest (at-loop .row) (omega arith)) (place c .2)
 
 loop-holds : tie.Need-loop-holds Inv-loop μ-loop
-loop-holds c = (omega arith, first-none)
+loop-holds c = (omega arith, filled-none)
 
 mul-moved : tie.Need-mul-moved Inv-loop μ-loop
 mul-moved c = omega arith
@@ -73,7 +73,7 @@ loop-again c =
     let at-loop = c .before .before .before in (
       omega arith,
       rw (reads c)
-          (first-next (omega arith) (rw (same-shift (at-loop .before .before)) (place c .2)) (at-loop .loop .inv .1)),
+          (filled-next (at-loop .loop .inv .1) (omega arith) (rw (same-shift (at-loop .before .before)) (place c .2))),
     )
 
 same-length : tie.Need-same-length Inv-loop μ-loop
