@@ -1,8 +1,6 @@
 -- Two lists side by side: the cost of the joined list is the sum of the costs, and a wake for what lies between. Assumes nothing.
-use Prim.Native.Nat.{ℕ, zero, suc, _+_, _-_, _≤_, _<_}
-use mathlib.Core.Path.{_≡_, refl, sym, _∙_, ap}
-use mathlib.Core.Bool.{Bool, true, false}
-use mathlib.Core.Logic.{_⊎_, inl, inr, ⊎-elim}
+use Prim.Native.Nat.{ℕ, suc, _+_, _-_, _≤_, _<_}
+use mathlib.Core.Path.{_≡_, refl, _∙_}
 use native.Mathlib.Omega.{arith}
 use lib.Dec.{eqb}
 use borrow.Author.Tests.{eq-eqb, ne-eqb}
@@ -11,158 +9,24 @@ use Rattle.day.specs.declared.Day.{Day}
 use Rattle.day.specs.Windows.{Windows}
 use Rattle.day.specs.Plan.{Plan, Proper, taken}
 use Rattle.day.specs.Gap.{price, cost}
-use Rattle.day.specs.Far.{far-price, from-one}
 use Rattle.day.specs.Change.{after, joined, joining, Apart}
-use Rattle.day.proofs.Cases.{give, on-le, on-eq, or-right}
-use Rattle.day.proofs.Span.{span, span-cong, span-empty, span-split}
-use Rattle.day.proofs.Plan.{Taker, taken-intro, taken-false, taken-same}
+use Rattle.day.proofs.Cases.{give, on-le, or-right}
+use Rattle.day.proofs.Plan.{Taker, taken-intro, taken-false}
 use Rattle.day.proofs.Gap.{cost-same, cost-none}
-use Rattle.day.proofs.Far.{from-one-zero, from-one-suc, far-price-start, far-price-end, far-price-inside, cost-far}
+use Rattle.day.proofs.Far.{cost-far}
+use Rattle.day.proofs.FarCut.{slots-cong, whole, whole-until, whole-since, whole-across}
+use Rattle.day.proofs.Outermost.{Outermost, Earlier, Later, last-start, first-start}
 use Rattle.day.proofs.Joined.{on-row, first-proper, second-proper, first-ends, second-begins, starts-apart}
+use Rattle.day.proofs.JoinedTaken.{taken-first, taken-after}
 
--- the laws of a span, said of slots
-
-slots-cong : (day : Day) (full other : ℕ → Bool) (s e : ℕ) → s ≤ e → ((t : ℕ) → s ≤ suc t → suc t < e → full t ≡ other t)
-    → span (far-price day) (from-one full) s e ≡ span (far-price day) (from-one other) s e
-slots-cong day full other s e l same = span-cong (far-price day) (from-one full) (from-one other) s e l point
-  where
-    point : (x : ℕ) → s ≤ x → x < e → from-one full x ≡ from-one other x
-    point zero a b = from-one-zero full ∙ sym (from-one-zero other)
-    point (suc t) a b = from-one-suc full t ∙ same t a b ∙ sym (from-one-suc other t)
-
-slots-empty : (day : Day) (full : ℕ → Bool) (s e : ℕ) → s ≤ e → ((t : ℕ) → s ≤ suc t → suc t < e → full t ≡ false)
-    → span (far-price day) (from-one full) s e ≡ far-price day s e
-slots-empty day full s e l none = span-empty (far-price day) (from-one full) s e l point
-  where
-    point : (x : ℕ) → s ≤ x → x < e → from-one full x ≡ false
-    point zero a b = from-one-zero full
-    point (suc t) a b = from-one-suc full t ∙ none t a b
-
-slots-split : (day : Day) (full : ℕ → Bool) (s t e : ℕ) → s ≤ suc t → suc t < e → full t ≡ true
-    → span (far-price day) (from-one full) s e
-    ≡ span (far-price day) (from-one full) s (suc t) + span (far-price day) (from-one full) (suc (suc t)) e
-slots-split day full s t e a b h = span-split (far-price day) (from-one full) s (suc t) e a b (from-one-suc full t ∙ h)
-
--- the row whose start comes last by an order of the slots; by the reverse order, the one whose start comes first
-record Last (Order : ℕ → ℕ → Type 0) (n : ℕ) (p : Plan) : Type 0 where
-  row : ℕ
-  below : row < n
-  last : (i : ℕ) → i < n → Order (p i) (p row)
-
-module _ (Order : ℕ → ℕ → Type 0)
-    (total : (a b : ℕ) → Order a b ⊎ Order b a)
-    (through : (a b c : ℕ) → Order a b → Order b c → Order a c) where
-  order-same : (a b : ℕ) → a ≡ b → Order a b
-  order-same a b e = rw e (⊎-elim (λ h. h) (λ h. h) (total b b))
-
-  last-of : (n : ℕ) (p : Plan) → 0 < n → Last Order n p
-  last-of zero p some = absurd (omega arith)
-  last-of (suc zero) p some =
-      record { row = 0; below = omega arith; last = λ i l. order-same (p i) (p 0) (ap p (omega arith)) }
-  last-of (suc (suc n)) p some =
-      give (last-of (suc n) p (omega arith))
-      (λ w.
-      ⊎-elim
-      (λ h.
-      record {
-        row = w .row;
-        below = omega arith;
-        last = λ i l. on-eq i (suc n) (λ q. rw q h) (λ q. w .last i (omega arith));
-      })
-      (λ h.
-      record {
-        row = suc n;
-        below = omega arith;
-        last = λ i l.
-            on-eq i (suc n) (λ q. order-same (p i) (p (suc n)) (ap p q))
-            (λ q. through (p i) (p (w .row)) (p (suc n)) (w .last i (omega arith)) h);
-      })
-      (total (p (suc n)) (p (w .row))))
-
-abbrev Earlier : ℕ → ℕ → Type 0
-Earlier a b = a ≤ b
-
-abbrev Later : ℕ → ℕ → Type 0
-Later a b = b ≤ a
-
-last-start : (n : ℕ) (p : Plan) → 0 < n → Last Earlier n p
-last-start = last-of Earlier (λ a b. on-le a b inl (λ h. inr (omega arith))) (λ a b c h k. omega arith)
-
-first-start : (n : ℕ) (p : Plan) → 0 < n → Last Later n p
-first-start = last-of Later (λ a b. on-le a b inr (λ h. inl (omega arith))) (λ a b c h k. omega arith)
-
--- a slot that the joined list takes is taken by the first list or by the second
-
-module _ (n m : ℕ) (r : Plan) (t : ℕ) where
-  taken-parts : Taker (n + m) r t → Taker n r t ⊎ Taker m (after n r) t
-  taken-parts w =
-      on-row (λ i. r i ≡ t → Taker n r t ⊎ Taker m (after n r) t) n m (w .row) (w .below)
-      (λ i l e. inl (record { row = i; below = l; at = e }))
-      (λ k l e. inr (record { row = k; below = l; at = e })) (w .at)
-
-  taken-first : (Taker m (after n r) t → ⊥) → taken (n + m) r t ≡ taken n r t
-  taken-first none =
-      taken-same (n + m) n r r t t (λ w. ⊎-elim (λ u. u) (λ u. absurd (none u)) (taken-parts w))
-      (λ w. record { row = w .row; below = omega arith; at = w .at })
-
-  taken-after : (Taker n r t → ⊥) → taken (n + m) r t ≡ taken m (after n r) t
-  taken-after none =
-      taken-same (n + m) m r (after n r) t t (λ w. ⊎-elim (λ u. absurd (none u)) (λ u. u) (taken-parts w))
-      (λ w. record { row = n + w .row; below = omega arith; at = w .at })
-
--- a day between its far points
-
-abbrev whole : Day → (ℕ → Bool) → ℕ
-whole day full = span (far-price day) (from-one full) 0 (day .slots + 2)
-
-module _ (day : Day) (full : ℕ → Bool) where
-  -- after the last full slot there is a wake
-  whole-until : (l : ℕ) → l < day .slots → full l ≡ true → ((t : ℕ) → l < t → full t ≡ false)
-      → whole day full ≡ span (far-price day) (from-one full) 0 (suc l) + day .power .wake
-  whole-until l b here none =
-      omega (
-        arith,
-        slots-split day full 0 l (day .slots + 2) (omega arith) (omega arith) here,
-        slots-empty day full (suc (suc l)) (day .slots + 2) (omega arith) (λ t a c. none t (omega arith)),
-        far-price-end day (suc (suc l)) (day .slots + 2) refl,
-      )
-
-  -- before the first full slot there is a wake
-  whole-since : (f : ℕ) → f < day .slots → full f ≡ true → ((t : ℕ) → t < f → full t ≡ false)
-      → whole day full ≡ day .power .wake + span (far-price day) (from-one full) (suc (suc f)) (day .slots + 2)
-  whole-since f b here none =
-      omega (
-        arith,
-        slots-split day full 0 f (day .slots + 2) (omega arith) (omega arith) here,
-        slots-empty day full 0 (suc f) (omega arith) (λ t a c. none t (omega arith)),
-        far-price-start day (suc f),
-      )
-
-  -- between two full slots with none between them lies a gap
-  whole-across : (l f : ℕ) → l < f → f < day .slots → full l ≡ true → full f ≡ true
-      → ((t : ℕ) → l < t → t < f → full t ≡ false)
-      → whole day full
-      ≡ span (far-price day) (from-one full) 0 (suc l)
-      + price (day .power) (f - suc l)
-      + span (far-price day) (from-one full) (suc (suc f)) (day .slots + 2)
-  whole-across l f a b here there none =
-      let length : suc f - suc (suc l) ≡ f - suc l = omega arith in
-      omega (
-        arith,
-        slots-split day full 0 l (day .slots + 2) (omega arith) (omega arith) here,
-        slots-split day full (suc (suc l)) f (day .slots + 2) (omega arith) (omega arith) there,
-        slots-empty day full (suc (suc l)) (suc f) (omega arith) (λ t c d. none t (omega arith) (omega arith)),
-        far-price-inside day (suc (suc l)) (suc f) (λ z. omega arith) (λ z. omega arith),
-        ap (price (day .power)) length,
-      )
-
-module _ (day : Day) (n m : ℕ) (r : Plan) (last : Last Earlier n r) (first : Last Later m (after n r))
+-- the last job of the first list stands before the first job of the second
+module _ (day : Day) (n m : ℕ) (r : Plan) (last : Outermost Earlier n r) (first : Outermost Later m (after n r))
     (order : r (last .row) < r (n + first .row)) where
   not-first : (t : ℕ) → r (last .row) < t → Taker n r t → ⊥
-  not-first t l w = omega (arith, last .last (w .row) (w .below))
+  not-first t l w = omega (arith, last .others (w .row) (w .below))
 
   not-second : (t : ℕ) → t < r (n + first .row) → Taker m (after n r) t → ⊥
-  not-second t l w = omega (arith, first .last (w .row) (w .below))
+  not-second t l w = omega (arith, first .others (w .row) (w .below))
 
   whole-joined : r (n + first .row) < day .slots
       → whole day (taken (n + m) r) + (day .power .wake + day .power .wake)

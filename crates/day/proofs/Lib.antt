@@ -11,10 +11,13 @@ pub mod Gap
 pub mod GapRuns
 pub mod Bound
 pub mod Far
+pub mod FarCut
 pub mod Number
 pub mod Best
 pub mod Mirrored
 pub mod Moved
 pub mod Joined
+pub mod JoinedTaken
+pub mod Outermost
 pub mod JoinedCost
 pub mod Beside
