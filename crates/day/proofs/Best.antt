@@ -1,4 +1,4 @@
--- The tie rule leaves one best plan, and only the rows matter to it. Assumes nothing.
+-- The tie rule leaves one best plan; it moves as its windows do, and only the rows matter to it. Assumes nothing.
 use Prim.Native.Nat.{ℕ, _+_, _-_, _<_}
 use mathlib.Core.Path.{_≡_, sym}
 use mathlib.Core.Logic.{⊎-elim, inl, inr}

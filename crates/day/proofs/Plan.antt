@@ -1,4 +1,4 @@
--- Laws of plans: which slots are taken. Assumes nothing.
+-- Laws of plans: which slots are taken; a plan that moves as its windows do stays proper, and only the rows matter. Assumes nothing.
 use Prim.Native.Nat.{ℕ, zero, suc, _+_, _-_, _<_}
 use mathlib.Core.Path.{_≡_, refl, sym, _∙_}
 use mathlib.Core.Bool.{true, false}
