@@ -52,7 +52,7 @@ says-of-bytes {file} {day} {w} m e p =
       slots = rw (from-end 8 (omega arith)) (t .slots);
       wake = rw (from-end 6 (omega arith)) (t .wake);
       distance = distance-here;
-      marked = (rw (from-end 2 (omega arith)) (t .low-mark), rw (from-end 1 (omega arith)) (t .high-mark));
+      marked = (rw (from-end 2 (omega arith)) (t .first-mark), rw (from-end 1 (omega arith)) (t .second-mark));
       release = λ i h. rw first (rows-stand w (w .count) i h rows-here .0);
       deadline = λ i h. rw first (rows-stand w (w .count) i h rows-here .1);
     })

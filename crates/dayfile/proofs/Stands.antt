@@ -87,8 +87,8 @@ pub record TrailerStands (file : List ℕ) (place n : ℕ) (day : Day) : Type 0 
   pub slots : number-at file (place + 2) ≡ day .slots
   pub wake : number-at file (place + 4) ≡ day .power .wake
   pub distance : number-at file (place + 6) ≡ distance-back n
-  pub low-mark : at file (place + 8) ≡ 80
-  pub high-mark : at file (place + 9) ≡ 76
+  pub first-mark : at file (place + 8) ≡ 80
+  pub second-mark : at file (place + 9) ≡ 76
 
 pub trailer-stands : {file : List ℕ} {place : ℕ} (n : ℕ) (day : Day) → Stands file place (trailer n day) → TrailerStands file place n day
 unfolding trailer
@@ -105,6 +105,6 @@ trailer-stands {file} {place} n day p =
       slots = number-stands _ (stands-next (bytes-of n) _ 2 slots-here (length-bytes-of n));
       wake = number-stands _ (stands-next two _ 4 wake-here (simp (length-append, length-bytes-of)));
       distance = number-stands _ (stands-next three _ 6 distance-here (simp (length-append, length-bytes-of)));
-      low-mark = byte-stands 0 (place + 8) (omega arith) (omega arith) mark;
-      high-mark = byte-stands 1 (place + 9) (omega arith) (omega arith) mark;
+      first-mark = byte-stands 0 (place + 8) (omega arith) (omega arith) mark;
+      second-mark = byte-stands 1 (place + 9) (omega arith) (omega arith) mark;
     }

@@ -5,9 +5,10 @@ use day::MOST_JOBS;
 use day::Power;
 use day::at_or_zero;
 use day::code;
+use day::lesser;
 use day::wide;
 ghost use mathlib.Core.Path.{_≡_};
-ghost use Prim.Native.Nat.{_+_, _*_, _<_, _≤_, min};
+ghost use Prim.Native.Nat.{_+_, _*_, _<_, _≤_};
 ghost use lib.ListN.{length};
 ghost use Rattle.day.specs.Windows.{windows};
 ghost use Rattle.dayfile.specs.Bytes.{bytes-of, number-at};
@@ -38,7 +39,7 @@ pub struct Reading {
 pub fn read(file: &[u8], releases: &mut [u16], deadlines: &mut [u16]) -> Reading
     ensures { λ r. ⌜ Read (now (file .entry)) (now (releases .entry)) (now (deadlines .entry)) r (now (releases .exit)) (now (deadlines .exit)) ⌝ }
 {
-    let answer = check_file(file, shorter(releases.len(), deadlines.len()));
+    let answer = check_file(file, lesser(releases.len(), deadlines.len()));
     if answer.code != code::DONE {
         return refusal(answer);
     }
@@ -207,10 +208,4 @@ fn write_number(number: u16, file: &mut [u8], place: usize)
 {
     file[place] = (number % 256) as u8;
     file[place + 1] = (number / 256) as u8;
-}
-
-fn shorter(a: usize, b: usize) -> usize
-    ensures { λ r. ⌜ r ≡ min a b ⌝ }
-{
-    if a < b { a } else { b }
 }

@@ -7,10 +7,6 @@ use Rattle.dayfile.specs.Bytes.{number-at}
 use Rattle.dayfile.proofs.number_at.Statement.{statement}
 use Rattle.dayfile.proofs.number_at.Tie as tie
 
--- `dayfile::number_at` meets its contract: two bytes make a 16-bit number. Assumes nothing.
-
--- `dayfile::number_at` meets its contract: two bytes make a 16-bit number. Assumes nothing.
-
 shared-slice-read-result : tie.Need-shared-slice-read-result
 shared-slice-read-result c = search needs
 

@@ -15,15 +15,15 @@ use Rattle.dayfile.proofs.read.Tie as tie
 accepted : (c : tie.Else1) →
     let start = c .before .before .before .before .before .before .before .args in
     Readable (start .file .now) (min (length (start .releases .now)) (length (start .deadlines .now)))
-accepted c = rw (c .before .before .before .shorter .ensures) at (readable (c .if1 .left) (c .before .before .check-file .ensures))
+accepted c = rw (c .before .before .before .lesser .ensures) at (readable (c .if1 .left) (c .before .before .check-file .ensures))
 
 -- how many rows there are and where they begin may be said in another way
 column-as : {n m : ℕ} {xs ys : List ℕ} (file : List ℕ) (place other : ℕ) → n ≡ m → place ≡ other → FilledFrom n (column file place) xs ys
     → FilledFrom m (column file other) xs ys
 column-as file place other e f p = rw (← e, ← f) p
 
-shorter-requires : tie.Need-shorter-requires
-shorter-requires c κs = search needs
+lesser-requires : tie.Need-lesser-requires
+lesser-requires c κs = search needs
 
 check-file-requires : tie.Need-check-file-requires
 check-file-requires c κs = search needs
@@ -35,7 +35,7 @@ returns : tie.Need-returns
 returns c =
     record {
       answer =
-          rw (c .refusal .ensures, ← c .before .before .before .before .shorter .ensures)
+          rw (c .refusal .ensures, ← c .before .before .before .before .lesser .ensures)
           (c .before .before .before .check-file .ensures);
       accepted = λ e. absurd (c .before .if1 .taken (rw (c .refusal .ensures) at e));
       refused = λ h. record { reading = rw (c .refusal .ensures); kept-releases = refl; kept-deadlines = refl };
@@ -91,7 +91,7 @@ returns-2 c =
     let numbers = first .before .before in
     let known = numbers .before .before .before .before .before in
     record {
-      answer = rw (← known .before .before .before .shorter .ensures) (known .before .before .check-file .ensures);
+      answer = rw (← known .before .before .before .lesser .ensures) (known .before .before .check-file .ensures);
       accepted = λ e.
           record {
             count = numbers .before .before .before .before .number-at .ensures;
@@ -108,7 +108,7 @@ pub read-spec : {M : Type 1} → statement M
 read-spec =
     tie.close
     (tie.spec
-    shorter-requires
+    lesser-requires
     check-file-requires
     refusal-requires
     returns

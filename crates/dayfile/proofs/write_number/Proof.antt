@@ -7,8 +7,6 @@ use Rattle.dayfile.proofs.Stores.{stored-pair}
 use Rattle.dayfile.proofs.write_number.Statement.{statement}
 use Rattle.dayfile.proofs.write_number.Tie as tie
 
--- `dayfile::write_number` meets its contract. Assumes nothing.
-
 cast-file : tie.Need-cast-file
 cast-file c = search needs
 

@@ -7,10 +7,6 @@ use Rattle.dayfile.proofs.Stores.{stored-more}
 use Rattle.dayfile.proofs.write_row.Statement.{statement}
 use Rattle.dayfile.proofs.write_row.Tie as tie
 
--- `dayfile::write_row` meets its contract. Assumes nothing.
-
--- `dayfile::write_row` meets its contract. Assumes nothing.
-
 write-number-requires : tie.Need-write-number-requires
 write-number-requires c κs = search needs
 
