@@ -1,4 +1,4 @@
--- Laws of the reader's promise: what holds of a file that it accepts. Assumes nothing.
+-- Laws of the reader's promise: what holds of a file that it accepts, and that a day is its two numbers. Assumes nothing.
 use Prim.Native.Nat.{ℕ, _≤_}
 use mathlib.Core.Path.{_≡_, _∙_, ap}
 use mathlib.Core.List.{List}
