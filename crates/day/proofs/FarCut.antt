@@ -1,4 +1,5 @@
--- The day between its far points, cut at its full slots: what lies before them, between them and after them. Assumes nothing.
+-- The day between its far points, cut at its full slots: one day that holds the full slots of two, the first ones before the second
+-- ones, costs as much as both, with a gap in place of two wakes. Assumes nothing.
 use Prim.Native.Nat.{ℕ, zero, suc, _+_, _-_, _≤_, _<_}
 use mathlib.Core.Path.{_≡_, refl, sym, _∙_, ap}
 use mathlib.Core.Bool.{Bool, true, false}
@@ -11,7 +12,7 @@ use Rattle.day.proofs.Far.{from-one-zero, from-one-suc, far-price-start
 
 -- the laws of a span, said of slots
 
-pub slots-cong : (day : Day) (full other : ℕ → Bool) (s e : ℕ) → s ≤ e → ((t : ℕ) → s ≤ suc t → suc t < e → full t ≡ other t)
+slots-cong : (day : Day) (full other : ℕ → Bool) (s e : ℕ) → s ≤ e → ((t : ℕ) → s ≤ suc t → suc t < e → full t ≡ other t)
     → span (far-price day) (from-one full) s e ≡ span (far-price day) (from-one other) s e
 slots-cong day full other s e l same = span-cong (far-price day) (from-one full) (from-one other) s e l point
   where
@@ -39,7 +40,7 @@ whole day full = span (far-price day) (from-one full) 0 (day .slots + 2)
 
 module _ (day : Day) (full : ℕ → Bool) where
   -- after the last full slot there is a wake
-  pub whole-until : (l : ℕ) → l < day .slots → full l ≡ true → ((t : ℕ) → l < t → full t ≡ false)
+  whole-until : (l : ℕ) → l < day .slots → full l ≡ true → ((t : ℕ) → l < t → full t ≡ false)
       → whole day full ≡ span (far-price day) (from-one full) 0 (suc l) + day .power .wake
   whole-until l b here none =
       omega (
@@ -50,7 +51,7 @@ module _ (day : Day) (full : ℕ → Bool) where
       )
 
   -- before the first full slot there is a wake
-  pub whole-since : (f : ℕ) → f < day .slots → full f ≡ true → ((t : ℕ) → t < f → full t ≡ false)
+  whole-since : (f : ℕ) → f < day .slots → full f ≡ true → ((t : ℕ) → t < f → full t ≡ false)
       → whole day full ≡ day .power .wake + span (far-price day) (from-one full) (suc (suc f)) (day .slots + 2)
   whole-since f b here none =
       omega (
@@ -61,7 +62,7 @@ module _ (day : Day) (full : ℕ → Bool) where
       )
 
   -- between two full slots with none between them lies a gap
-  pub whole-across : (l f : ℕ) → l < f → f < day .slots → full l ≡ true → full f ≡ true
+  whole-across : (l f : ℕ) → l < f → f < day .slots → full l ≡ true → full f ≡ true
       → ((t : ℕ) → l < t → t < f → full t ≡ false)
       → whole day full
       ≡ span (far-price day) (from-one full) 0 (suc l)
@@ -77,3 +78,19 @@ module _ (day : Day) (full : ℕ → Bool) where
         far-price-inside day (suc (suc l)) (suc f) (λ z. omega arith) (λ z. omega arith),
         ap (price (day .power)) length,
       )
+
+-- full slots as in `first` up to its last, l, and as in `second` from its first, f
+pub whole-joined : (day : Day) (full first second : ℕ → Bool) (l f : ℕ) → l < f → f < day .slots → first l ≡ true → second f ≡ true
+    → ((t : ℕ) → t < f → (full t ≡ first t) × (second t ≡ false))
+    → ((t : ℕ) → l < t → (full t ≡ second t) × (first t ≡ false))
+    → whole day full + (day .power .wake + day .power .wake) ≡ whole day first + whole day second + price (day .power) (f - suc l)
+whole-joined day full first second l f order inside here there early late =
+    omega (
+      arith,
+      whole-until day first l (omega arith) here (λ t a. late t a .1),
+      whole-since day second f inside there (λ t a. early t a .1),
+      whole-across day full l f order inside (early l order .0 ∙ here) (late f order .0 ∙ there)
+          (λ t a b. early t b .0 ∙ late t a .1),
+      slots-cong day full first 0 (suc l) (omega arith) (λ t a b. early t (omega arith) .0),
+      slots-cong day full second (suc (suc f)) (day .slots + 2) (omega arith) (λ t a b. late t (omega arith) .0),
+    )

@@ -1,6 +1,6 @@
 -- Two lists side by side: the cost of the joined list is the sum of the costs, and a wake for what lies between. Assumes nothing.
 use Prim.Native.Nat.{ℕ, suc, _+_, _-_, _≤_, _<_}
-use mathlib.Core.Path.{_≡_, refl, _∙_}
+use mathlib.Core.Path.{_≡_, refl}
 use native.Mathlib.Omega.{arith}
 use lib.Dec.{eqb}
 use borrow.Author.Tests.{eq-eqb, ne-eqb}
@@ -14,7 +14,7 @@ use Rattle.day.proofs.Cases.{give, on-le, or-right}
 use Rattle.day.proofs.Plan.{Taker, taken-intro, taken-false}
 use Rattle.day.proofs.Gap.{cost-same, cost-none}
 use Rattle.day.proofs.Far.{cost-far}
-use Rattle.day.proofs.FarCut.{slots-cong, whole, whole-until, whole-since, whole-across}
+use Rattle.day.proofs.FarCut.{whole, whole-joined}
 use Rattle.day.proofs.Outermost.{Outermost, Earlier, Later, last-start, first-start}
 use Rattle.day.proofs.Joined.{on-row, first-proper, second-proper, first-ends, second-begins, starts-apart}
 use Rattle.day.proofs.JoinedTaken.{taken-first, taken-after}
@@ -28,28 +28,15 @@ module _ (day : Day) (n m : ℕ) (r : Plan) (last : Outermost Earlier n r) (firs
   not-second : (t : ℕ) → t < r (n + first .row) → Taker m (after n r) t → ⊥
   not-second t l w = omega (arith, first .others (w .row) (w .below))
 
-  whole-joined : r (n + first .row) < day .slots
+  whole-of-parts : r (n + first .row) < day .slots
       → whole day (taken (n + m) r) + (day .power .wake + day .power .wake)
       ≡ whole day (taken n r) + whole day (taken m (after n r)) + price (day .power) (r (n + first .row) - suc (r (last .row)))
-  whole-joined inside =
-      give (taken-intro n r (r (last .row)) (last .row) (last .below) refl)
-      (λ here.
-      give (taken-intro m (after n r) (r (n + first .row)) (first .row) (first .below) refl)
-      (λ there.
-      omega (
-        arith,
-        whole-until day (taken n r) (r (last .row)) (omega arith) here (λ t l. taken-false n r t (not-first t l)),
-        whole-since day (taken m (after n r)) (r (n + first .row)) inside there
-            (λ t l. taken-false m (after n r) t (not-second t l)),
-        whole-across day (taken (n + m) r) (r (last .row)) (r (n + first .row)) order inside
-            (taken-first n m r (r (last .row)) (not-second (r (last .row)) order) ∙ here)
-            (taken-after n m r (r (n + first .row)) (not-first (r (n + first .row)) order) ∙ there)
-            (λ t a b. taken-first n m r t (not-second t b) ∙ taken-false n r t (not-first t a)),
-        slots-cong day (taken (n + m) r) (taken n r) 0 (suc (r (last .row))) (omega arith)
-            (λ t a b. taken-first n m r t (not-second t (omega arith))),
-        slots-cong day (taken (n + m) r) (taken m (after n r)) (suc (suc (r (n + first .row)))) (day .slots + 2) (omega arith)
-            (λ t a b. taken-after n m r t (not-first t (omega arith))),
-      )))
+  whole-of-parts inside =
+      whole-joined day (taken (n + m) r) (taken n r) (taken m (after n r)) (r (last .row)) (r (n + first .row)) order inside
+      (taken-intro n r (r (last .row)) (last .row) (last .below) refl)
+      (taken-intro m (after n r) (r (n + first .row)) (first .row) (first .below) refl)
+      (λ t l. (taken-first n m r t (not-second t l), taken-false m (after n r) t (not-second t l)))
+      (λ t l. (taken-after n m r t (not-first t l), taken-false n r t (not-first t l)))
 
 -- what joining adds
 
@@ -129,7 +116,7 @@ module _ {day : Day} {g h : ℕ} {w v : Windows} (apart : Apart (day .power) g h
         cost-far day (w .count + v .count) r (omega arith) inside,
         cost-far day (w .count) r some (λ i l. inside i (omega arith)),
         cost-far day (v .count) (after (w .count) r) more (λ k l. inside (w .count + k) (omega arith)),
-        whole-joined day (w .count) (v .count) r last first
+        whole-of-parts day (w .count) (v .count) r last first
             (starts-apart apart r (after (w .count) r) (first-proper w v r P) (second-proper w v r P)
             (last .row) (first .row) (last .below) (first .below))
             (inside (w .count + first .row) (omega (arith, first .below))),
