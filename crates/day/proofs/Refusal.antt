@@ -57,6 +57,16 @@ end-clear i f e b r = f .lowest (r .row) (omega (arith, r .first .within)) (r .f
 pub no-fault : {code : ℕ} {Fault : Type 0} → ((b : Answer) → Refuses code Fault b → ⊥) → Fault → ⊥
 no-fault {code} clear f = clear (says code 0 0) (record { fault = f; says = refl })
 
+-- past a refusal that has no fault to name
+pub past : {code : ℕ} {Fault : Type 0} {Next : Answer → Type 0} {a : Answer} → (Fault → ⊥) → Next a → (Refuses code Fault then Next) a
+past clear next = goes-on (λ b r. clear (r .fault)) next
+
+-- where the answer is `done` there was no fault, and what comes next answered
+pub past-done : {code : ℕ} {Fault : Type 0} {Next : Answer → Type 0} {a : Answer} → (code ≡ done → ⊥) → a .code ≡ done
+    → (Refuses code Fault then Next) a → (Fault → ⊥) × Next a
+past-done h e (stops p) = absurd (h (rw (p .says) at e))
+past-done h e (goes-on clear q) = (no-fault clear, q)
+
 -- a row at fault would be refused
 pub no-row-at-fault : {code n : ℕ} {Fault : ℕ → Type 0} → ((i : ℕ) → Fault i ⊎ (Fault i → ⊥))
     → ((b : Answer) → RefusesRow code n Fault b → ⊥) → (i : ℕ) → i < n → Fault i → ⊥

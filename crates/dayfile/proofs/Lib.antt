@@ -1,7 +1,6 @@
 -- The laws of the day file, and that reading undoes writing.
 pub mod Stores
 pub mod Format
-pub mod Refusals
 pub mod Stands
 pub mod Reader
 pub mod Writer

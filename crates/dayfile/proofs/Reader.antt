@@ -8,9 +8,9 @@ use Rattle.day.specs.declared.Answer.{Answer}
 use Rattle.day.specs.declared.Day.{Day}
 use Rattle.day.specs.Answer.{done}
 use Rattle.day.proofs.Cases.{give, on-eq, on-le}
+use Rattle.day.proofs.Refusal.{past-done}
 use Rattle.dayfile.specs.Format.{distance-back, count-in, distance-in}
 use Rattle.dayfile.specs.Reader.{FileCheck}
-use Rattle.dayfile.proofs.Refusals.{passed}
 
 pub record Readable (file : List ℕ) (room : ℕ) : Type 0 where
   pub long : 10 ≤ length file
@@ -20,17 +20,17 @@ pub record Readable (file : List ℕ) (room : ℕ) : Type 0 where
 
 pub readable : {file : List ℕ} {room : ℕ} {a : Answer} → a .code ≡ done → FileCheck file room a → Readable file room
 readable {file} {room} e p =
-    give (passed (λ h. omega arith) e p)
+    give (past-done (λ h. omega arith) e p)
     (λ long.
-    give (passed (λ h. omega arith) e (long .1))
+    give (past-done (λ h. omega arith) e (long .1))
     (λ mark.
-    give (passed (λ h. omega arith) e (mark .1))
+    give (past-done (λ h. omega arith) e (mark .1))
     (λ count.
-    give (passed (λ h. omega arith) e (count .1))
+    give (past-done (λ h. omega arith) e (count .1))
     (λ distance.
-    give (passed (λ h. omega arith) e (distance .1))
+    give (past-done (λ h. omega arith) e (distance .1))
     (λ whole.
-    give (passed (λ h. omega arith) e (whole .1))
+    give (past-done (λ h. omega arith) e (whole .1))
     (λ enough.
     record {
       long = on-le 10 (length file) (λ h. h) (λ h. absurd (long .0 h));

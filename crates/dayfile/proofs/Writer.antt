@@ -6,8 +6,8 @@ use Rattle.day.specs.declared.Answer.{Answer}
 use Rattle.day.specs.Answer.{done}
 use Rattle.day.specs.Check.{most-jobs}
 use Rattle.day.proofs.Cases.{give, on-le}
+use Rattle.day.proofs.Refusal.{past-done}
 use Rattle.dayfile.specs.Writer.{file-length, RoomCheck}
-use Rattle.dayfile.proofs.Refusals.{passed}
 
 pub record Writable (m n room : ℕ) : Type 0 where
   pub few : n ≤ most-jobs
@@ -15,9 +15,9 @@ pub record Writable (m n room : ℕ) : Type 0 where
 
 pub writable : {m n room : ℕ} {a : Answer} → a .code ≡ done → RoomCheck m n room a → Writable m n room
 writable {m} {n} {room} e p =
-    give (passed (λ h. omega arith) e p)
+    give (past-done (λ h. omega arith) e p)
     (λ few.
-    give (passed (λ h. omega arith) e (few .1))
+    give (past-done (λ h. omega arith) e (few .1))
     (λ fits.
     record {
       few = on-le n most-jobs (λ h. h) (λ h. absurd (few .0 h));

@@ -12,12 +12,11 @@ use Rattle.day.specs.Answer.{says, done, no-plan, long-input}
 use Rattle.day.specs.Refusal.{_then_, stops, goes-on, Passed, Refuses}
 use Rattle.day.specs.Check.{Accepted, most-jobs}
 use Rattle.day.proofs.Cases.{on-eq, on-le}
-use Rattle.day.proofs.Refusal.{then-clear, then-group, then-next, clear-first, clear-next, no-fault}
+use Rattle.day.proofs.Refusal.{then-clear, then-group, then-next, clear-first, clear-next, no-fault, past}
 use Rattle.day.proofs.Check.{clear-accepted, accepted-clear}
 use Rattle.dayfile.specs.declared.Reading.{Reading}
 use Rattle.dayfile.specs.Format.{count-in, release-in, deadline-in}
 use Rattle.dayfile.specs.Reader.{FilledFrom, FileCheck, Read}
-use Rattle.dayfile.proofs.Refusals.{past}
 use Rattle.dayfile.proofs.Reader.{readable, day-ext}
 use Rattle.dayfile.proofs.Unique.{file-check-unique}
 use Rattle.claim.specs.Claim.{ClaimCheck}

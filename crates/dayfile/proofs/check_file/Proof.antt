@@ -7,8 +7,8 @@ use Rattle.day.specs.declared.Answer.{Answer}
 use Rattle.day.specs.Answer.{too-many-jobs, short-file, wrong-mark}
 use Rattle.day.specs.Refusal.{_then_, stops, Refuses}
 use Rattle.day.specs.Check.{most-jobs}
+use Rattle.day.proofs.Refusal.{past}
 use Rattle.dayfile.specs.Format.{count-in, Marked}
-use Rattle.dayfile.proofs.Refusals.{past}
 use Rattle.dayfile.proofs.check_file.Statement.{statement}
 use Rattle.dayfile.proofs.check_file.Tie as tie
 

@@ -2,7 +2,7 @@
 use native.Mathlib.Omega.{arith}
 use borrow.Author.Needs.{needs}
 use Rattle.day.specs.Refusal.{stops}
-use Rattle.dayfile.proofs.Refusals.{past}
+use Rattle.day.proofs.Refusal.{past}
 use Rattle.dayfile.proofs.check_room.Statement.{statement}
 use Rattle.dayfile.proofs.check_room.Tie as tie
 
