@@ -31,7 +31,7 @@ holds-job rows t = not (eqb (at rows t) 0)
 abbrev pub HoldsJob : List ℕ → ℕ → Type 0
 HoldsJob rows t = holds-job rows t ≡ true
 
--- the first slot from `from` on that holds a job, or the end of the list
+-- the first slot from `from` on that holds a job; where none does, the end of the list, or `from` past it
 pub record NextJob (rows : List ℕ) (from slot : ℕ) : Type 0 where
   pub later : from ≤ slot
   pub within : from < slot → slot ≤ length rows

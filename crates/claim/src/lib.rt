@@ -18,13 +18,13 @@ pub const OWN: u16 = 1;
 
 pub const SERVER: u16 = 2;
 
-// A claimed plan, judged: the answer, and of an accepted plan the row, counted from 1, that stands in each slot, 0 where none does.
+// A claimed plan, judged: the answer, and the row, counted from 1, that stands in each slot; 0 where none does, and everywhere under a refusal.
 pub struct Claimed {
     pub answer: Answer,
     pub rows: [u16; 96],
 }
 
-// Judges the starts for a list that has passed codes 1 to 4.
+// Judges the starts for a list that has passed codes 1 to 4, and puts the rows in their slots.
 fn place(releases: &[u16], deadlines: &[u16], starts: &[u16]) -> Claimed
     requires { ⌜ GoodRows most-jobs most-slots (windows (now releases) (now deadlines)) ⌝ }
     ensures { λ c. ⌜ Placed (windows (now (releases .entry)) (now (deadlines .entry))) (now (starts .entry)) c ⌝ }

@@ -1,4 +1,4 @@
-// The slots of a day as a list of rows, and a walk over them.
+// The slots of a day as a list of rows, and walks over them.
 ghost use Prim.Native.Nat.{ℕ, _<_, _≤_};
 ghost use mathlib.Core.Path.{_≡_};
 ghost use lib.ListN.{length};
@@ -23,7 +23,7 @@ pub(crate) fn rows_by_slot(starts: &[u16], count: usize) -> [u16; 96]
     rows
 }
 
-// The first slot from `from` on that holds a job; the number of slots where none does.
+// The first slot from `from` on that holds a job; where none does, the number of slots, or `from` if that is more.
 pub fn next_job(rows: &[u16], from: usize) -> usize
     ensures { λ r. ⌜ NextJob (now (rows .entry)) from r ⌝ }
 {

@@ -1,7 +1,7 @@
 -- `claim::check::check_starts` meets its contract. Assumes nothing.
 use native.Mathlib.Omega.{arith}
 use borrow.Author.Needs.{needs}
-use Rattle.day.specs.Refusal.{_then_, stops, goes-on}
+use Rattle.day.specs.Refusal.{stops, goes-on}
 use Rattle.day.proofs.Refusal.{refuses-row-is-check, then-group, then-refused, then-passed}
 use Rattle.claim.proofs.check.check_starts.Statement.{statement}
 use Rattle.claim.proofs.check.check_starts.Tie as tie
