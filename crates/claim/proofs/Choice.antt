@@ -11,9 +11,8 @@ use Rattle.day.specs.Refusal.{_then_, stops, goes-on}
 use Rattle.day.proofs.Refusal.{IsCheck, refuses-is-check}
 use Rattle.day.proofs.Check.{list-is-check}
 use Rattle.day.proofs.Cases.{give, on-eq}
-use Rattle.claim.specs.Claim.{Fit, PricedStarts}
+use Rattle.claim.specs.Claim.{Fit, plan-cost, PricedStarts}
 use Rattle.claim.specs.Choice.{
-  plan-cost,
   own-plan,
   server-plan,
   Wins,

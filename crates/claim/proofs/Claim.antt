@@ -9,14 +9,13 @@ use Rattle.day.specs.declared.Answer.{Answer}
 use Rattle.day.specs.declared.Day.{Day}
 use Rattle.day.specs.Windows.{Windows, at}
 use Rattle.day.specs.Plan.{MayStart}
-use Rattle.day.specs.Gap.{cost}
 use Rattle.day.specs.Answer.{done}
 use Rattle.day.specs.Refusal.{_then_, stops, goes-on, Passed}
 use Rattle.day.specs.Check.{most-slots, GoodRows, Accepted, ListCheck}
 use Rattle.day.proofs.Cases.{on-le, on-eq}
 use Rattle.day.proofs.Refusal.{IsCheck, refuses-is-check, refuses-row-is-check, refuses-pair-is-check, then-is-check, then-passed, then-clear, passed-clear, clear-first, clear-next, no-fault, no-row-at-fault}
 use Rattle.day.proofs.Check.{list-is-check, clear-accepted}
-use Rattle.claim.specs.Claim.{Fit, Together, LengthCheck, WindowsCheck, ApartCheck, StartsCheck, ClaimCheck, PricedStarts}
+use Rattle.claim.specs.Claim.{Fit, Together, LengthCheck, WindowsCheck, ApartCheck, StartsCheck, ClaimCheck, plan-cost, PricedStarts}
 use Rattle.claim.specs.declared.Claimed.{Claimed}
 use Rattle.claim.specs.Rows.{Placed, Judged}
 use Rattle.claim.proofs.Rows.{Cut, rows-cut}
@@ -102,7 +101,7 @@ passed-accepted a p e = clear-accepted (passed-clear list-is-check a p e)
 
 -- pricing answers 0 exactly for a fit plan, and then with its cost
 pub priced-fit : (day : Day) (w : Windows) (starts : List ℕ) (a : Answer) → PricedStarts day w starts a → a .code ≡ done
-    → Fit w starts × (a .first ≡ cost day (w .count) (at starts))
+    → Fit w starts × (a .first ≡ plan-cost day w starts)
 priced-fit day w starts a (stops p) e = absurd (starts-is-check w starts .not-done a p e)
 priced-fit day w starts a (goes-on clear p) e = (clear-fit w starts clear, ap (λ (x : Answer). x .first) p)
 

@@ -6,16 +6,11 @@ use lib.ListN.{take}
 use denote.Ref.{RefT, now}
 use Rattle.day.specs.declared.Answer.{Answer}
 use Rattle.day.specs.declared.Day.{Day}
-use Rattle.day.specs.Windows.{Windows, at}
-use Rattle.day.specs.Gap.{cost}
+use Rattle.day.specs.Windows.{Windows}
 use Rattle.day.specs.Answer.{says, done, neither-proper}
 use Rattle.day.specs.Refusal.{_then_, Refuses}
 use Rattle.day.specs.Check.{ListCheck}
-use Rattle.claim.specs.Claim.{Fit}
-
--- what the list's first starts of a plan cost
-abbrev pub plan-cost : Day → Windows → List ℕ → ℕ
-plan-cost day w starts = cost day (w .count) (at starts)
+use Rattle.claim.specs.Claim.{Fit, plan-cost}
 
 -- the plans as the companion numbers them
 abbrev pub own-plan : ℕ

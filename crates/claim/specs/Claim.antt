@@ -43,9 +43,13 @@ StartsCheck w starts = LengthCheck w starts then WindowsCheck w starts then Apar
 abbrev pub ClaimCheck : Day → Windows → List ℕ → Answer → Type 0
 ClaimCheck day w starts = ListCheck day w then StartsCheck w starts
 
--- the cost of the claimed plan
+-- what the plan of the first n starts costs
+abbrev pub plan-cost : Day → Windows → List ℕ → ℕ
+plan-cost day w starts = cost day (w .count) (at starts)
+
+-- the answer that says so
 abbrev pub Costs : Day → Windows → List ℕ → Answer → Type 0
-Costs day w starts a = a ≡ says done (cost day (w .count) (at starts)) 0
+Costs day w starts a = a ≡ says done (plan-cost day w starts) 0
 
 -- what pricing the starts answers for a list that has passed codes 1 to 4
 abbrev pub PricedStarts : Day → Windows → List ℕ → Answer → Type 0
