@@ -13,7 +13,7 @@ use Rattle.day.specs.Answer.{done}
 use Rattle.day.specs.Refusal.{_then_, stops, goes-on, Passed}
 use Rattle.day.specs.Check.{most-slots, GoodRows, Accepted, ListCheck}
 use Rattle.day.proofs.Cases.{on-le, on-eq}
-use Rattle.day.proofs.Refusal.{IsCheck, refuses-is-check, refuses-row-is-check, refuses-pair-is-check, then-is-check, then-passed, then-clear, passed-clear, clear-first, clear-next, no-fault, no-row-at-fault}
+use Rattle.day.proofs.Refusal.{IsCheck, refuses-is-check, refuses-row-is-check, refuses-pair-is-check, then-is-check, then-passed, then-clear, then-next, passed-clear, clear-first, clear-next, no-fault, no-row-at-fault}
 use Rattle.day.proofs.Check.{list-is-check, clear-accepted}
 use Rattle.claim.specs.Claim.{Fit, Together, LengthCheck, WindowsCheck, ApartCheck, StartsCheck, ClaimCheck, plan-cost, PricedStarts}
 use Rattle.claim.specs.declared.Claimed.{Claimed}
@@ -110,11 +110,6 @@ pub priced-unfit : (day : Day) (w : Windows) (starts : List ℕ) (a : Answer) �
 priced-unfit day w starts a (stops p) e fit = fit-clear w starts fit a p
 priced-unfit day w starts a (goes-on clear p) e fit = e (ap (λ (x : Answer). x .code) p)
 
--- a check that passed answers with nothing else
-passed-says : {Check : Answer → Type 0} → IsCheck Check → (a : Answer) → (Check then Passed) a → a .code ≡ done → Passed a
-passed-says check a (stops p) e = absurd (check .not-done a p e)
-passed-says check a (goes-on clear p) e = p
-
 -- after a plan that was judged and not refused, what comes next answers
 pub placed-next : {w : Windows} {starts : List ℕ} {claimed : Claimed} {Next : Answer → Type 0} → Placed w starts claimed
     → claimed .answer .code ≡ done → (a : Answer) → Next a → (StartsCheck w starts then Next) a
@@ -122,14 +117,17 @@ placed-next {w} {starts} {claimed} p e a = then-passed (starts-is-check w starts
 
 module _ {day : Day} {w : Windows} {starts : List ℕ} {claimed : Claimed} (p : Judged day w starts claimed)
     (e : claimed .answer .code ≡ done) where
+  judged-clear : (b : Answer) → ClaimCheck day w starts b → ⊥
+  judged-clear = passed-clear (claim-is-check day w starts) (claimed .answer) (p .answer) e
+
   pub judged-next : {Next : Answer → Type 0} (a : Answer) → Next a → (ClaimCheck day w starts then Next) a
-  judged-next a = then-passed (claim-is-check day w starts) (claimed .answer) a (p .answer) e
+  judged-next a = goes-on judged-clear
 
   pub judged-says : Passed (claimed .answer)
-  judged-says = passed-says (claim-is-check day w starts) (claimed .answer) (p .answer) e
+  judged-says = then-next judged-clear (claimed .answer) (p .answer)
 
   pub judged-slots : day .slots ≤ most-slots
-  judged-slots = clear-accepted (clear-first (passed-clear (claim-is-check day w starts) (claimed .answer) (p .answer) e)) .slots
+  judged-slots = clear-accepted (clear-first judged-clear) .slots
 
   -- the day's slots are a part of the rows
   pub judged-cut : (slots : ℕ) → slots ≡ day .slots → Cut (claimed .rows) slots
