@@ -25,6 +25,7 @@ use Rattle.ledger.specs.Fills.{Empty, Busy}
 use Rattle.ledger.specs.Count.{Count, InColumn, Counted}
 use Rattle.ledger.specs.Sleep.{sleeps}
 use Rattle.ledger.proofs.Count.{count-unique}
+use Rattle.ledger.proofs.Fills.{not-busy}
 use Rattle.ledger.proofs.Walked.{Walked, walked-first, walked-empty, walked-job, walked-end}
 
 -- of a gap's slots, those that the machine stays awake
@@ -88,7 +89,7 @@ module _ {power : Power} {slots : ℕ} {row : ℕ → ℕ} where
       (λ f.
       rw
       (gaps-from-first (holds row) slots (f .0) (f .1 .within)
-      (λ u h. holds-false row u (on-eq (row u) 0 (λ e. e) (λ b. absurd (f .1 .lowest u h b))))
+      (λ u h. holds-false row u (not-busy row u (f .1 .lowest u h)))
       (λ h. holds-true row (f .0) (f .1 .fault h)))
       (count-unique (p .awake) (awake-counted (slots - f .0) (f .0) (omega (arith, f .1 .within)) (walked-first (f .1))) ∙ omega arith))
 

@@ -11,6 +11,14 @@ count-unique (counted p h) (passed q l) = absurd (l h)
 count-unique (passed p h) (counted q l) = absurd (h l)
 count-unique (passed p h) (passed q l) = count-unique p q
 
+-- properties that agree count alike
+pub count-same : {P Q : ℕ → Type 0} {m c : ℕ} → ((u : ℕ) → u < m → P u → Q u) → ((u : ℕ) → u < m → Q u → P u) → Count P m c → Count Q m c
+count-same to from none = none
+count-same to from (counted {m = m} p h) =
+    counted (count-same (λ u l. to u (omega arith)) (λ u l. from u (omega arith)) p) (to m (omega arith) h)
+count-same to from (passed {m = m} p h) =
+    passed (count-same (λ u l. to u (omega arith)) (λ u l. from u (omega arith)) p) (λ q. h (from m (omega arith) q))
+
 -- of g further numbers all count, or none does
 pub count-all : {P : ℕ → Type 0} {m c : ℕ} (g n d : ℕ) → n ≡ m + g → d ≡ c + g → Count P m c → ((u : ℕ) → m ≤ u → u < n → P u)
     → Count P n d

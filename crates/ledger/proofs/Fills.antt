@@ -13,6 +13,9 @@ use Rattle.ledger.specs.declared.Fill.{Fill}
 use Rattle.ledger.specs.declared.Fill.the-variants.{Job, Before, Awake, Asleep, After}
 use Rattle.ledger.specs.Fills.{Empty, Busy, InGap, Fills, by-job, before-first, after-last, in-awake, in-asleep}
 
+pub not-busy : (row : ℕ → ℕ) (t : ℕ) → (Busy row t → ⊥) → Empty row t
+not-busy row t n = on-eq (row t) 0 (λ e. e) (λ b. absurd (n b))
+
 module _ {slots : ℕ} {row : ℕ → ℕ} {t : ℕ} where
   gap-empty : {g : ℕ} → InGap slots row t g → Empty row t
   gap-empty p = p .empty t (p .after-last) (p .before-next)
@@ -112,7 +115,7 @@ module _ (power : Power) (slots : ℕ) (row : ℕ → ℕ) (t : ℕ) (within : t
       next = omega (arith, p .earlier, q .fault .0)
 
       clear : (u : ℕ) → t < u → u < n → Empty row u
-      clear u h l = on-eq (row u) 0 (λ z. z) (λ z. absurd (q .lowest u l (h, z)))
+      clear u h l = not-busy row u (λ b. q .lowest u l (h, b))
 
       gap : InGap slots row t (n - suc (p .at))
       gap =
@@ -140,7 +143,7 @@ module _ (power : Power) (slots : ℕ) (row : ℕ → ℕ) (t : ℕ) (within : t
         after-last (p .at) (p .earlier) (p .job)
             (λ u h l.
             on-le t u
-            (λ k. on-eq u t (λ z. rw z e) (λ z. on-eq (row u) 0 (λ y. y) (λ y. absurd (n u l (omega arith, y)))))
+            (λ k. on-eq u t (λ z. rw z e) (λ z. not-busy row u (λ b. n u l (omega arith, b))))
             (λ k. p .empty u h k)),
       ))
       (first-or-none (later-job-known row t) slots))

@@ -4,13 +4,14 @@ use mathlib.Core.Path.{_≡_, refl}
 use native.Mathlib.Omega.{arith}
 use Rattle.day.specs.declared.Power.{Power}
 use Rattle.day.specs.Refusal.{FirstOrEnd}
-use Rattle.day.proofs.Cases.{on-eq, on-le}
+use Rattle.day.proofs.Cases.{on-le}
 use Rattle.ledger.specs.declared.Fill.the-variants.{Before, After}
 use Rattle.ledger.specs.declared.Fill.{Fill}
 use Rattle.ledger.specs.declared.Counts.{Counts}
 use Rattle.ledger.specs.Fills.{Empty, Busy, Fills, by-job, before-first, after-last, in-awake, in-asleep}
 use Rattle.ledger.specs.Count.{none, column, Counted}
 use Rattle.ledger.proofs.Count.{count-unique, count-all, count-none}
+use Rattle.ledger.proofs.Fills.{not-busy}
 use Rattle.ledger.proofs.Column.{five-add-up}
 
 module _ {power : Power} {slots : ℕ} {row : ℕ → ℕ} where
@@ -38,7 +39,7 @@ module _ {power : Power} {slots : ℕ} {row : ℕ → ℕ} where
       (λ u h l.
       record {
         fill = Before;
-        fills = before-first (λ v k. on-eq (row v) 0 (λ e. e) (λ b. absurd (begun .lowest v (omega arith) b)));
+        fills = before-first (λ v k. not-busy row v (begun .lowest v (omega arith)));
         here = refl;
       }))
       (λ u h l q. begun .fault (omega arith) (column-before (q .fills) (q .here) first h)))

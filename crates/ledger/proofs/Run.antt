@@ -13,6 +13,7 @@ use Rattle.claim.proofs.Rows.{holds-job-true, holds-job-false, next-within}
 use Rattle.ledger.specs.declared.Fill.the-variants.{Before, After}
 use Rattle.ledger.specs.Fills.{Empty, Busy, InGap, Fills, before-first, after-last}
 use Rattle.ledger.specs.Run.{RunStart}
+use Rattle.ledger.proofs.Fills.{not-busy}
 
 -- the search for the next job stays within the list, and ends inside it unless at its end
 pub next-at-most : {rows : List ℕ} {slot end : ℕ} → NextJob rows slot end → slot ≤ length rows → end ≤ length rows
@@ -43,7 +44,7 @@ module _ {rows : List ℕ} {slot start : ℕ} (here : Empty (at rows) slot) (run
 
   clear-to : {end : ℕ} → NextJob rows slot end → (u : ℕ) → start ≤ u → u < end → Empty (at rows) u
   clear-to next u h l =
-      on-le slot u (λ k. on-eq (at rows u) 0 (λ e. e) (λ e. absurd (next .none u l k (holds-job-true rows u e))))
+      on-le slot u (λ k. not-busy (at rows) u (λ busy. next .none u l k (holds-job-true rows u busy)))
       (λ k. run .empty u h k)
 
   -- with no job from there on it is after the last

@@ -13,7 +13,8 @@ use Rattle.claim.proofs.Rows.{rows-each, rows-cut}
 use Rattle.ledger.specs.declared.Fill.{Fill}
 use Rattle.ledger.specs.declared.Counts.{Counts}
 use Rattle.ledger.specs.Fills.{InGap, Fills, by-job, before-first, after-last, in-awake, in-asleep}
-use Rattle.ledger.specs.Count.{Count, none, counted, passed, InColumn, Counted}
+use Rattle.ledger.specs.Count.{Count, InColumn, Counted}
+use Rattle.ledger.proofs.Count.{count-same}
 
 -- two functions give the same row for each slot of the day
 abbrev Agree : ℕ → (ℕ → ℕ) → (ℕ → ℕ) → Type 0
@@ -43,13 +44,6 @@ fills-same agree l (in-asleep g p e) = in-asleep g (gap-same agree p) e
 column-same : {power : Power} {slots : ℕ} {row other : ℕ → ℕ} {k t : ℕ} → Agree slots row other → t < slots
     → InColumn power slots row k t → InColumn power slots other k t
 column-same agree l p = record { fill = p .fill; fills = fills-same agree l (p .fills); here = p .here }
-
-count-same : {P Q : ℕ → Type 0} {m c : ℕ} → ((u : ℕ) → u < m → P u → Q u) → ((u : ℕ) → u < m → Q u → P u) → Count P m c → Count Q m c
-count-same to from none = none
-count-same to from (counted {m = m} p h) =
-    counted (count-same (λ u l. to u (omega arith)) (λ u l. from u (omega arith)) p) (to m (omega arith) h)
-count-same to from (passed {m = m} p h) =
-    passed (count-same (λ u l. to u (omega arith)) (λ u l. from u (omega arith)) p) (λ q. h (from m (omega arith) q))
 
 module _ {power : Power} {slots : ℕ} {row other : ℕ → ℕ} (agree : Agree slots row other) where
   one-column : {k c : ℕ} → Count (InColumn power slots row k) slots c → Count (InColumn power slots other k) slots c

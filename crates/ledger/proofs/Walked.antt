@@ -11,6 +11,7 @@ use Rattle.ledger.specs.declared.Fill.the-variants.{Job, Before, Awake, 
 use Rattle.ledger.specs.declared.Counts.{Counts}
 use Rattle.ledger.specs.Fills.{Empty, Busy, InGap, by-job, before-first, after-last, in-awake, in-asleep}
 use Rattle.ledger.specs.Count.{none, CountedTo, Counted}
+use Rattle.ledger.proofs.Fills.{not-busy}
 use Rattle.ledger.proofs.Column.{gain, counted-block}
 
 abbrev pub five : ℕ → ℕ → ℕ → ℕ → ℕ → Counts
@@ -46,14 +47,12 @@ module _ {power : Power} {slots : ℕ} {row : ℕ → ℕ} where
         settled =
             counted-block {m = 0} {c = five 0 0 0 0 0} {d = five first 0 0 0 0} 0 first (first - 0) (omega arith)
             (omega (arith, begun .within))
-            (λ u h l. record { fill = Before; fills = before-first (λ v k. clear v (omega arith)); here = refl })
+            (λ u h l.
+            record { fill = Before; fills = before-first (λ v k. not-busy row v (begun .lowest v (omega arith))); here = refl })
             counts-none (omega arith) (omega arith) (omega arith) (omega arith) (omega arith);
         waiting = λ u h l. absurd (omega arith);
         last = λ h. absurd (omega arith);
       }
-    where
-      clear : (v : ℕ) → v < first → Empty row v
-      clear v h = on-eq (row v) 0 (λ e. e) (λ b. absurd (begun .lowest v h b))
 
   -- an empty slot waits for the job that shows what it is
   pub walked-empty : {first job awake asleep empty slot empty' : ℕ} → Walked power slots row first job awake asleep empty slot
