@@ -1,16 +1,16 @@
 -- Each promise of the ledger determines its outcome, and a proper plan's rows stand where they start. Assumes nothing.
-use Prim.Native.Nat.{ℕ, _+_, _≤_, _<_}
-use mathlib.Core.Path.{_≡_, sym, _∙_, ap}
+use Prim.Native.Nat.{ℕ, _+_, _<_}
+use mathlib.Core.Path.{_≡_, sym, _∙_}
 use mathlib.Core.List.{List}
 use native.Mathlib.Omega.{arith}
 use Rattle.day.specs.declared.Answer.{Answer}
 use Rattle.day.specs.declared.Day.{Day}
 use Rattle.day.specs.declared.Power.{Power}
 use Rattle.day.specs.Windows.{Windows, at}
-use Rattle.day.specs.Answer.{done, no-such-slot}
-use Rattle.day.specs.Refusal.{_then_, stops, goes-on, Passed, Refuses}
+use Rattle.day.specs.Answer.{done}
+use Rattle.day.specs.Refusal.{_then_, stops, goes-on, Passed}
 use Rattle.day.proofs.Cases.{give, on-eq, on-le}
-use Rattle.day.proofs.Refusal.{refuses-is-check, then-unique, no-fault}
+use Rattle.day.proofs.Refusal.{IsCheck, refuses-is-check, then-unique, passed-clear, no-fault}
 use Rattle.claim.specs.Claim.{Fit, ClaimCheck}
 use Rattle.claim.proofs.Claim.{claim-is-check}
 use Rattle.claim.proofs.Rows.{row-at-own}
@@ -20,7 +20,7 @@ use Rattle.ledger.specs.declared.LedgerAnswer.{LedgerAnswer}
 use Rattle.ledger.specs.declared.SlotAnswer.{SlotAnswer}
 use Rattle.ledger.specs.Fills.{Fills, by-job}
 use Rattle.ledger.specs.Count.{Counted}
-use Rattle.ledger.specs.Promise.{plan-row, Ledgered, SlotShown}
+use Rattle.ledger.specs.Promise.{plan-row, Ledgered, AskedCheck, SlotShown}
 use Rattle.ledger.proofs.Count.{count-unique}
 use Rattle.ledger.proofs.Fills.{fills-unique}
 
@@ -47,13 +47,15 @@ ledgered-unique day w starts a b p q = rw (same-answer, same-counts)
         (λ e. counted-unique (p .accepted e) (q .accepted (rw same-answer at e)))
         (λ e. p .refused e ∙ sym (q .refused (rw same-answer at e)))
 
+asked-is-check : (day : Day) (asked : ℕ) → IsCheck (AskedCheck day asked)
+asked-is-check day asked = refuses-is-check (λ e. omega arith)
+
 -- a slot that is shown is a slot of the day
 shown-within : (day : Day) (w : Windows) (starts : List ℕ) (asked : ℕ) (a : Answer)
-    → (ClaimCheck day w starts then Refuses no-such-slot (day .slots ≤ asked) then Passed) a → a .code ≡ done → asked < day .slots
+    → (ClaimCheck day w starts then AskedCheck day asked then Passed) a → a .code ≡ done → asked < day .slots
 shown-within day w starts asked a (stops p) e = absurd (claim-is-check day w starts .not-done a p e)
-shown-within day w starts asked a (goes-on _ (stops p)) e = absurd (omega (arith, ap (λ (x : Answer). x .code) (p .says), e))
-shown-within day w starts asked a (goes-on _ (goes-on clear _)) e =
-    on-le (day .slots) asked (λ h. absurd (no-fault clear h)) (λ h. h)
+shown-within day w starts asked a (goes-on _ p) e =
+    on-le (day .slots) asked (λ h. absurd (no-fault (passed-clear (asked-is-check day asked) a p e) h)) (λ h. h)
 
 pub shown-unique : (day : Day) (w : Windows) (starts : List ℕ) (asked : ℕ) (a b : SlotAnswer) → SlotShown day w starts asked a
     → SlotShown day w starts asked b → a ≡ b
@@ -70,7 +72,7 @@ shown-unique day w starts asked a b p q =
   where
     same-answer : a .answer ≡ b .answer
     same-answer =
-        then-unique (claim-is-check day w starts) (then-unique (refuses-is-check (λ e. omega arith)) (λ x y e f. e ∙ sym f)) (a .answer)
+        then-unique (claim-is-check day w starts) (then-unique (asked-is-check day asked) (λ x y e f. e ∙ sym f)) (a .answer)
         (b .answer) (p .answer) (q .answer)
 
 -- a row of a fit plan fills the slot in which it starts

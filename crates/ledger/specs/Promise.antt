@@ -2,6 +2,7 @@
 use Prim.Native.Nat.{ℕ, _≤_}
 use mathlib.Core.Path.{_≡_}
 use mathlib.Core.List.{List}
+use Rattle.day.specs.declared.Answer.{Answer}
 use Rattle.day.specs.declared.Day.{Day}
 use Rattle.day.specs.Windows.{Windows, at}
 use Rattle.day.specs.Answer.{done, no-such-slot}
@@ -33,9 +34,13 @@ pub record Ledgered (day : Day) (w : Windows) (starts : List ℕ) (answered : Le
 abbrev pub no-slot : SlotFill
 no-slot = record { slot = 0; fill = Before }
 
+-- the slot asked for is T or more
+abbrev pub AskedCheck : Day → ℕ → Answer → Type 0
+AskedCheck day asked = Refuses no-such-slot (day .slots ≤ asked)
+
 -- one slot of a plan: refused as pricing, then by 19, or the slot and what fills it
 pub record SlotShown (day : Day) (w : Windows) (starts : List ℕ) (asked : ℕ) (shown : SlotAnswer) : Type 0 where
-  pub answer : (ClaimCheck day w starts then Refuses no-such-slot (day .slots ≤ asked) then Passed) (shown .answer)
+  pub answer : (ClaimCheck day w starts then AskedCheck day asked then Passed) (shown .answer)
   pub slot : shown .answer .code ≡ done → shown .held .slot ≡ asked
   pub fill : shown .answer .code ≡ done → Fills (day .power) (day .slots) (plan-row w starts) asked (shown .held .fill)
   pub refused : (shown .answer .code ≡ done → ⊥) → shown .held ≡ no-slot
