@@ -1,11 +1,11 @@
 -- Laws of the row in a slot. Assumes nothing.
 use Prim.Native.Nat.{ℕ, zero, suc, _+_, _≤_, _<_}
 use mathlib.Core.Path.{_≡_, refl, sym, _∙_}
-use mathlib.Core.Bool.{true, false, not}
+use mathlib.Core.Bool.{true, false}
 use mathlib.Core.List.{List}
 use native.Mathlib.Omega.{arith}
 use native.Mathlib.Numerals.{add-one}
-use lib.Dec.{eqb, eqb·suc-zero}
+use lib.Dec.{eqb·suc-zero}
 use lib.ListN.{length, take, set, length-set, replicate, length-replicate, getD-replicate}
 use lib.Seq.{getD-set-same, getD-set-other, getD-take, length-take-le}
 use borrow.Author.Tests.{eq-eqb, ne-eqb}
@@ -48,13 +48,13 @@ rows-none start =
       each = λ t l. getD-replicate {A = ℕ} most-slots t 0 0 l ∙ sym (row-at-none start t);
     }
 
-pub holds-job-true : (rows : List ℕ) (t : ℕ) → (at rows t ≡ 0 → ⊥) → holds-job rows t ≡ true
+pub holds-job-true : (row : ℕ → ℕ) (t : ℕ) → (row t ≡ 0 → ⊥) → holds-job row t ≡ true
 unfolding holds-job
-holds-job-true rows t h = rw (ne-eqb (at rows t) 0 h)
+holds-job-true row t h = rw (ne-eqb (row t) 0 h)
 
-pub holds-job-false : (rows : List ℕ) (t : ℕ) → at rows t ≡ 0 → holds-job rows t ≡ false
+pub holds-job-false : (row : ℕ → ℕ) (t : ℕ) → row t ≡ 0 → holds-job row t ≡ false
 unfolding holds-job
-holds-job-false rows t h = rw (eq-eqb (at rows t) 0 h)
+holds-job-false row t h = rw (eq-eqb (row t) 0 h)
 
 -- of rows that all start apart, each stands in its slot
 pub row-at-own : (n : ℕ) (start : Plan) (i : ℕ) → i < n → ((j k : ℕ) → j < n → k < n → start j ≡ start k → j ≡ k)
@@ -67,8 +67,8 @@ row-at-own (suc n) start i h apart =
     ∙ row-at-own n start i (omega arith) (λ j k a b. apart j k (omega arith) (omega arith)))
 
 -- a slot holds a job exactly if one of the rows takes it
-pub row-at-taken : (n : ℕ) (start : Plan) (t : ℕ) → not (eqb (row-at n start t) 0) ≡ taken n start t
-unfolding row-at taken
+pub row-at-taken : (n : ℕ) (start : Plan) (t : ℕ) → holds-job (row-at n start) t ≡ taken n start t
+unfolding holds-job row-at taken
 row-at-taken zero start t = refl
 row-at-taken (suc n) start t =
     on-eq (start n) t (λ e. rw (eq-eqb (start n) t e, eqb·suc-zero n)) (λ e. rw (ne-eqb (start n) t e) (row-at-taken n start t))
@@ -79,7 +79,7 @@ pub rows-each : {n : ℕ} {start : Plan} {rows : List ℕ} → RowsBySlot n star
 rows-each {n} {start} {rows} r m t within h = getD-take m rows t 0 h ∙ r .each t (omega arith)
 
 pub holds-taken : {n : ℕ} {start : Plan} {rows : List ℕ} → RowsBySlot n start rows → (m t : ℕ) → m ≤ most-slots → t < m
-    → holds-job (take m rows) t ≡ taken n start t
+    → holds-job (at (take m rows)) t ≡ taken n start t
 unfolding holds-job
 holds-taken {n} {start} {rows} r m t within h = rw (rows-each r m t within h) (row-at-taken n start t)
 
@@ -94,5 +94,6 @@ rows-cut {n} {start} {rows} r slots within =
     let room : slots ≤ length rows = omega (arith, r .long) in
     record { small = within; room = room; long = length-take-le slots rows room }
 
-pub next-within : {rows : List ℕ} {slot : ℕ} → NextJob rows 0 slot → slot ≤ length rows
-next-within {rows} {slot} next = on-le slot 0 (λ h. omega arith) (λ h. next .within h)
+-- the search for the next job stays within the list
+pub next-within : {rows : List ℕ} {from slot : ℕ} → NextJob rows from slot → from ≤ length rows → slot ≤ length rows
+next-within {rows} {from} {slot} next h = on-le slot from (λ l. omega arith) (λ l. next .within l)

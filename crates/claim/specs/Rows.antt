@@ -6,8 +6,10 @@ use mathlib.Core.List.{List}
 use lib.Dec.{eqb}
 use lib.ListN.{length}
 use Rattle.day.specs.declared.Day.{Day}
+use Rattle.day.specs.declared.Power.{Power}
 use Rattle.day.specs.Windows.{Windows, at}
 use Rattle.day.specs.Plan.{Plan}
+use Rattle.day.specs.Gap.{price, gaps, total}
 use Rattle.day.specs.Answer.{done}
 use Rattle.day.specs.Refusal.{_then_, Passed}
 use Rattle.day.specs.Check.{most-slots}
@@ -24,12 +26,16 @@ pub record RowsBySlot (n : ℕ) (start : Plan) (rows : List ℕ) : Type 0 where
   pub long : length rows ≡ most-slots
   pub each : (t : ℕ) → t < most-slots → at rows t ≡ row-at n start t
 
--- by such a list, whether a slot holds a job
-unfoldable pub holds-job : List ℕ → ℕ → Bool
-holds-job rows t = not (eqb (at rows t) 0)
+-- by the row in each slot, whether a slot holds a job
+unfoldable pub holds-job : (ℕ → ℕ) → ℕ → Bool
+holds-job row t = not (eqb (row t) 0)
 
 abbrev pub HoldsJob : List ℕ → ℕ → Type 0
-HoldsJob rows t = holds-job rows t ≡ true
+HoldsJob rows t = holds-job (at rows) t ≡ true
+
+-- what the gaps between the jobs cost
+abbrev pub rows-cost : Power → List ℕ → ℕ
+rows-cost power rows = total (price power) (gaps (holds-job (at rows)) 0 (length rows))
 
 -- the first slot from `from` on that holds a job; where none does, the end of the list, or `from` past it
 pub record NextJob (rows : List ℕ) (from slot : ℕ) : Type 0 where

@@ -4,8 +4,7 @@ ghost use mathlib.Core.Path.{_≡_};
 ghost use lib.ListN.{length};
 ghost use Rattle.day.specs.Windows.{at};
 ghost use Rattle.day.specs.Check.{most-jobs, most-slots};
-ghost use Rattle.day.specs.Gap.{price, gaps, total};
-ghost use Rattle.claim.specs.Rows.{RowsBySlot, NextJob, holds-job};
+ghost use Rattle.claim.specs.Rows.{RowsBySlot, NextJob, rows-cost};
 use day::Power;
 
 // The row, counted from 1, that starts at each slot; 0 where none does.
@@ -40,7 +39,7 @@ pub fn next_job(rows: &[u16], from: usize) -> usize
 // What the gaps between the jobs cost.
 pub(crate) fn cost(power: Power, rows: &[u16]) -> u16
     requires { ⌜ length (now rows) ≤ most-slots ⌝ }
-    ensures { λ r. ⌜ r ≡ total (price power) (gaps (holds-job (now (rows .entry))) 0 (length (now (rows .entry)))) ⌝ }
+    ensures { λ r. ⌜ r ≡ rows-cost power (now (rows .entry)) ⌝ }
 {
     let mut cost: u16 = 0;
     let mut empty: u16 = 0;

@@ -1,13 +1,11 @@
 -- The cost of a plan from its ledger: the awake slots, and a wake for each sleeping gap. Assumes nothing.
 use Prim.Native.Nat.{ℕ, zero, suc, _+_, _-_, _*_}
 use mathlib.Core.Path.{_≡_, refl, sym, _∙_}
-use mathlib.Core.Bool.{Bool, true, false, cond, not}
+use mathlib.Core.Bool.{true, false, cond}
 use mathlib.Core.Logic.{inl, inr, ⊎-elim}
 use mathlib.Core.List.{List, [], _∷_}
 use native.Mathlib.Omega.{arith}
 use native.Mathlib.Numerals.{add-one}
-use lib.Dec.{eqb}
-use borrow.Author.Tests.{eq-eqb, ne-eqb}
 use Rattle.day.specs.declared.Power.{Power}
 use Rattle.day.specs.declared.Day.{Day}
 use Rattle.day.specs.Plan.{Plan, taken}
@@ -15,13 +13,21 @@ use Rattle.day.specs.Gap.{price, asleep, ended, gaps-since, gaps, total, cost}
 use Rattle.day.specs.Refusal.{FirstOrEnd}
 use Rattle.day.proofs.Cases.{give, on, on-eq}
 use Rattle.day.proofs.Refusal.{first-or-none}
-use Rattle.day.proofs.Gap.{total-none, total-cons, gaps-since-none, gaps-since-full, gaps-since-empty, gaps-same}
-use Rattle.claim.specs.Rows.{row-at}
-use Rattle.day.proofs.Gap.{price-asleep, price-awake}
-use Rattle.claim.proofs.Rows.{row-at-taken}
+use Rattle.day.proofs.Gap.{
+  price-asleep,
+  price-awake,
+  total-none,
+  total-cons,
+  gaps-since-none,
+  gaps-since-full,
+  gaps-since-empty,
+  gaps-same,
+}
+use Rattle.claim.specs.Rows.{row-at, holds-job}
+use Rattle.claim.proofs.Rows.{row-at-taken, holds-job-true, holds-job-false}
 use Rattle.claim.proofs.Walk.{gaps-from-first}
 use Rattle.ledger.specs.declared.Counts.{Counts}
-use Rattle.ledger.specs.Fills.{Empty, Busy}
+use Rattle.ledger.specs.Fills.{Busy}
 use Rattle.ledger.specs.Count.{Count, InColumn, Counted}
 use Rattle.ledger.specs.Sleep.{sleeps}
 use Rattle.ledger.proofs.Count.{count-unique}
@@ -32,22 +38,12 @@ use Rattle.ledger.proofs.Walked.{Walked, walked-first, walked-empty, wa
 unfoldable awake-slots : Power → ℕ → ℕ
 awake-slots power g = g - cond (asleep power g) g 0
 
--- whether a row stands in a slot
-abbrev holds : (ℕ → ℕ) → ℕ → Bool
-holds row t = not (eqb (row t) 0)
-
 -- a run with no slot adds nothing
 total-awake-ended : (power : Power) (g : ℕ) (rest : List ℕ)
     → total (awake-slots power) (ended g rest) ≡ awake-slots power g + total (awake-slots power) rest
 unfolding ended awake-slots
 total-awake-ended power zero rest = omega arith
 total-awake-ended power (suc g) rest = total-cons (awake-slots power) (suc g) rest
-
-holds-false : (row : ℕ → ℕ) (t : ℕ) → Empty row t → holds row t ≡ false
-holds-false row t e = rw (eq-eqb (row t) 0 e)
-
-holds-true : (row : ℕ → ℕ) (t : ℕ) → Busy row t → holds row t ≡ true
-holds-true row t b = rw (ne-eqb (row t) 0 b)
 
 first-busy : (slots : ℕ) (row : ℕ → ℕ) → (s : ℕ) × FirstOrEnd slots (Busy row) s
 first-busy slots row =
@@ -59,38 +55,38 @@ module _ {power : Power} {slots : ℕ} {row : ℕ → ℕ} where
   -- from any slot of the walk on, the awake slots are those of the gaps still to come
   awake-counted : {first job awake asleep empty : ℕ}
       (m slot : ℕ) → slot + m ≡ slots → Walked power slots row first job awake asleep empty slot
-      → Count (InColumn power slots row 2) slots (awake + total (awake-slots power) (gaps-since (holds row) empty slot m))
+      → Count (InColumn power slots row 2) slots (awake + total (awake-slots power) (gaps-since (holds-job row) empty slot m))
   unfolding awake-slots
   awake-counted {awake = awake} {empty = empty} zero slot e p =
-      let all : awake + total (awake-slots power) (gaps-since (holds row) empty slot 0) ≡ awake =
-      rw (gaps-since-none (holds row) empty slot) (omega (arith, total-none (awake-slots power)))
+      let all : awake + total (awake-slots power) (gaps-since (holds-job row) empty slot 0) ≡ awake =
+      rw (gaps-since-none (holds-job row) empty slot) (omega (arith, total-none (awake-slots power)))
       in
       rw all (walked-end p (omega arith) .awake)
   awake-counted {awake = awake} {empty = empty} (suc m) slot e p =
       on-eq (row slot) 0
       (λ here.
-      rw (gaps-since-empty (holds row) empty slot m (holds-false row slot here))
+      rw (gaps-since-empty (holds-job row) empty slot m (holds-job-false row slot here))
       (awake-counted m (suc slot) (omega arith)
       (rw (add-one slot) at (walked-empty {empty' = suc empty} p (omega arith) here (sym (add-one empty))))))
       (λ busy.
-      let rest : ℕ = total (awake-slots power) (gaps-since (holds row) 0 (suc slot) m) in
-      let sum : awake + total (awake-slots power) (gaps-since (holds row) empty slot (suc m)) ≡ awake + awake-slots power empty + rest =
-      rw (gaps-since-full (holds row) empty slot m (holds-true row slot busy))
-      (omega (arith, total-awake-ended power empty (gaps-since (holds row) 0 (suc slot) m)))
+      let rest : ℕ = total (awake-slots power) (gaps-since (holds-job row) 0 (suc slot) m) in
+      let sum : awake + total (awake-slots power) (gaps-since (holds-job row) empty slot (suc m)) ≡ awake + awake-slots power empty + rest =
+      rw (gaps-since-full (holds-job row) empty slot m (holds-job-true row slot busy))
+      (omega (arith, total-awake-ended power empty (gaps-since (holds-job row) 0 (suc slot) m)))
       in
       rw sum
       (awake-counted m (suc slot) (omega arith) (rw (add-one slot) at (walked-job {awake' = awake + awake-slots power empty} {empty' = 0} p
       (omega arith) busy refl refl refl refl refl))))
 
   -- the awake slots are those of the gaps
-  awake-of-gaps : {c : Counts} → Counted power slots row c → c .awake ≡ total (awake-slots power) (gaps (holds row) 0 slots)
+  awake-of-gaps : {c : Counts} → Counted power slots row c → c .awake ≡ total (awake-slots power) (gaps (holds-job row) 0 slots)
   awake-of-gaps {c} p =
       give (first-busy slots row)
       (λ f.
       rw
-      (gaps-from-first (holds row) slots (f .0) (f .1 .within)
-      (λ u h. holds-false row u (not-busy row u (f .1 .lowest u h)))
-      (λ h. holds-true row (f .0) (f .1 .fault h)))
+      (gaps-from-first (holds-job row) slots (f .0) (f .1 .within)
+      (λ u h. holds-job-false row u (not-busy row u (f .1 .lowest u h)))
+      (λ h. holds-job-true row (f .0) (f .1 .fault h)))
       (count-unique (p .awake) (awake-counted (slots - f .0) (f .0) (omega (arith, f .1 .within)) (walked-first (f .1))) ∙ omega arith))
 
 sleeps-none : (power : Power) → sleeps power [] ≡ 0
@@ -126,8 +122,8 @@ pub cost-of-ledger : (day : Day) (n : ℕ) (start : Plan) (c : Counts) → Count
     → cost day n start ≡ c .awake + day .power .wake * sleeps (day .power) (gaps (taken n start) 0 (day .slots))
 unfolding cost
 cost-of-ledger day n start c p =
-    let same : gaps (holds (row-at n start)) 0 (day .slots) ≡ gaps (taken n start) 0 (day .slots) =
-    gaps-same (holds (row-at n start)) (taken n start) (day .slots) 0 (λ u h. row-at-taken n start u)
+    let same : gaps (holds-job (row-at n start)) 0 (day .slots) ≡ gaps (taken n start) 0 (day .slots) =
+    gaps-same (holds-job (row-at n start)) (taken n start) (day .slots) 0 (λ u h. row-at-taken n start u)
     in
     let awake : c .awake ≡ total (awake-slots (day .power)) (gaps (taken n start) 0 (day .slots)) = rw same at (awake-of-gaps p) in
     total-price (day .power) (gaps (taken n start) 0 (day .slots)) ∙ rw awake

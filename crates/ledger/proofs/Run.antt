@@ -7,7 +7,7 @@ use lib.ListN.{length}
 use Rattle.day.specs.declared.Power.{Power}
 use Rattle.day.specs.Windows.{at}
 use Rattle.day.specs.Refusal.{FirstOrEnd}
-use Rattle.day.proofs.Cases.{give, on-eq, on-le, not-both}
+use Rattle.day.proofs.Cases.{on-eq, on-le, not-both}
 use Rattle.claim.specs.Rows.{NextJob}
 use Rattle.claim.proofs.Rows.{holds-job-true, holds-job-false, next-within}
 use Rattle.ledger.specs.declared.Fill.the-variants.{Before, After}
@@ -15,26 +15,18 @@ use Rattle.ledger.specs.Fills.{Empty, Busy, InGap, Fills, before-first, 
 use Rattle.ledger.specs.Run.{RunStart}
 use Rattle.ledger.proofs.Fills.{not-busy}
 
--- the search for the next job stays within the list, and ends inside it unless at its end
-pub next-at-most : {rows : List ℕ} {slot end : ℕ} → NextJob rows slot end → slot ≤ length rows → end ≤ length rows
-next-at-most {rows} {slot} {end} next l = on-eq slot end (λ z. omega arith) (λ z. next .within (omega (arith, next .later)))
-
-next-inside : {rows : List ℕ} {slot end : ℕ} → NextJob rows slot end → slot < length rows → (end ≡ length rows → ⊥) → end < length rows
-next-inside {rows} {slot} {end} next l e =
-    omega (arith, next-at-most next (omega arith))
-
--- and later than an empty slot
+-- the next job comes later than an empty slot
 next-after : {rows : List ℕ} {slot end : ℕ} → Empty (at rows) slot → NextJob rows slot end → end < length rows → slot < end
 next-after {rows} {slot} {end} here next within =
-    on-eq slot end (λ z. absurd (not-both (next .job within) (holds-job-false rows end (rw z at here)))) (λ z. omega (arith, next .later))
+    on-eq slot end (λ z. absurd (not-both (next .job within) (holds-job-false (at rows) end (rw z at here)))) (λ z. omega (arith, next .later))
 
 -- the next job from the first slot on is the first
 pub next-first : {rows : List ℕ} {s : ℕ} → NextJob rows 0 s → FirstOrEnd (length rows) (Busy (at rows)) s
 next-first {rows} {s} next =
     record {
-      within = next-within next;
-      fault = λ h e. not-both (next .job h) (holds-job-false rows s e);
-      lowest = λ u h busy. next .none u h (omega arith) (holds-job-true rows u busy);
+      within = next-within next (omega arith);
+      fault = λ h e. not-both (next .job h) (holds-job-false (at rows) s e);
+      lowest = λ u h busy. next .none u h (omega arith) (holds-job-true (at rows) u busy);
     }
 
 module _ {rows : List ℕ} {slot start : ℕ} (here : Empty (at rows) slot) (run : RunStart rows slot start) where
@@ -44,7 +36,7 @@ module _ {rows : List ℕ} {slot start : ℕ} (here : Empty (at rows) slot) (run
 
   clear-to : {end : ℕ} → NextJob rows slot end → (u : ℕ) → start ≤ u → u < end → Empty (at rows) u
   clear-to next u h l =
-      on-le slot u (λ k. not-busy (at rows) u (λ busy. next .none u l k (holds-job-true rows u busy)))
+      on-le slot u (λ k. not-busy (at rows) u (λ busy. next .none u l k (holds-job-true (at rows) u busy)))
       (λ k. run .empty u h k)
 
   -- with no job from there on it is after the last
@@ -57,8 +49,7 @@ module _ {rows : List ℕ} {slot start : ℕ} (here : Empty (at rows) slot) (run
   pub run-gap : {end : ℕ} → slot < length rows → (start ≡ 0 → ⊥) → NextJob rows slot end → (end ≡ length rows → ⊥)
       → InGap (length rows) (at rows) slot (end - start)
   run-gap {end} l some next e =
-      give (next-inside next l e)
-      (λ within.
+      let within : end < length rows = omega (arith, next-within next (omega arith)) in
       let last : start - 1 + (end - start) + 1 ≡ end = omega (arith, run .earlier, next .later) in
       record {
         last = start - 1;
@@ -66,6 +57,6 @@ module _ {rows : List ℕ} {slot start : ℕ} (here : Empty (at rows) slot) (run
         after-last = omega (arith, run .earlier);
         empty = λ u h k. clear-to next u (omega arith) (omega (arith, last));
         before-next = omega (arith, last, next-after here next within);
-        job-after = rw last (λ z. not-both (next .job within) (holds-job-false rows end z));
+        job-after = rw last (λ z. not-both (next .job within) (holds-job-false (at rows) end z));
         within = omega (arith, last);
-      })
+      }

@@ -8,7 +8,7 @@ use Rattle.day.proofs.Cases.{give}
 use Rattle.day.proofs.Refusal.{then-refused}
 use Rattle.claim.proofs.Claim.{placed-next, good-rows-within}
 use Rattle.claim.proofs.Rows.{rows-cut}
-use Rattle.claim.proofs.Walk.{whole-cost-day}
+use Rattle.claim.proofs.Walk.{rows-cost-day}
 use Rattle.claim.proofs.price_starts.Statement.{statement}
 use Rattle.claim.proofs.price_starts.Tie as tie
 
@@ -59,7 +59,7 @@ returns-2 c =
     (c .done .ensures
     ∙ ap (λ (x : ℕ). says done x 0)
     (c .before .cost .ensures
-    ∙ whole-cost-day (c .before .before .before .before .before .before .before .before .before .before .before .before .args .day)
+    ∙ rows-cost-day (c .before .before .before .before .before .before .before .before .before .before .before .before .args .day)
     (c .before .before .before .wide .ensures .0)
     (c .before .before .before .before .before .before .before .before .before .before .before .before .pre .slots)
     (c .before .before .before .before .before .before .before .before .place .ensures .rows .accepted

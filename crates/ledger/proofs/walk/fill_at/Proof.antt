@@ -2,8 +2,9 @@
 use mathlib.Core.Path.{sym, _∙_}
 use native.Mathlib.Omega.{arith}
 use borrow.Author.Needs.{needs}
+use Rattle.claim.proofs.Rows.{next-within}
 use Rattle.ledger.specs.Fills.{by-job, in-awake, in-asleep}
-use Rattle.ledger.proofs.Run.{run-before, run-after, run-gap, next-at-most}
+use Rattle.ledger.proofs.Run.{run-before, run-after, run-gap}
 use Rattle.ledger.proofs.walk.fill_at.Statement.{statement}
 use Rattle.ledger.proofs.walk.fill_at.Tie as tie
 
@@ -34,7 +35,7 @@ sub-asleep : tie.Need-sub-asleep
 sub-asleep c = search needs
 
 cast-asleep : tie.Need-cast-asleep
-cast-asleep c = omega (arith, next-at-most (c .before .next-job .ensures) (omega arith))
+cast-asleep c = omega (arith, next-within (c .before .next-job .ensures) (omega arith))
 
 asleep-requires : tie.Need-asleep-requires
 asleep-requires c κs = search needs
