@@ -17,12 +17,12 @@ ClearBelow n Fault i = (k l : ℕ) → k < i → k < l → l < n → Fault k l �
 abbrev pub AloneBelow : (ℕ → ℕ → Type 0) → ℕ → ℕ → Type 0
 AloneBelow Fault i j = (l : ℕ) → i < l → l < j → Fault i l → ⊥
 
-pub clear-next : (n : ℕ) (Fault : ℕ → ℕ → Type 0) (i : ℕ) → ClearBelow n Fault i → AloneBelow Fault i n → ClearBelow n Fault (i + 1)
-clear-next n Fault i clear alone k l below order within =
+pub clear-below-next : (n : ℕ) (Fault : ℕ → ℕ → Type 0) (i : ℕ) → ClearBelow n Fault i → AloneBelow Fault i n → ClearBelow n Fault (i + 1)
+clear-below-next n Fault i clear alone k l below order within =
     on-eq k i (λ e. rw e (alone l (omega arith) within)) (λ e. clear k l (omega arith) order within)
 
-pub alone-next : (Fault : ℕ → ℕ → Type 0) (i j : ℕ) → AloneBelow Fault i j → (Fault i j → ⊥) → AloneBelow Fault i (j + 1)
-alone-next Fault i j alone apart l order within = on-eq l j (λ e. rw e apart) (λ e. alone l order (omega arith))
+pub alone-below-next : (Fault : ℕ → ℕ → Type 0) (i j : ℕ) → AloneBelow Fault i j → (Fault i j → ⊥) → AloneBelow Fault i (j + 1)
+alone-below-next Fault i j alone apart l order within = on-eq l j (λ e. rw e apart) (λ e. alone l order (omega arith))
 
 -- row j comes after row i and is at fault with it
 abbrev Partner : (ℕ → ℕ → Type 0) → ℕ → ℕ → Type 0

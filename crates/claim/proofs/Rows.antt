@@ -28,7 +28,7 @@ unfolding row-at
 row-at-other n start t h = rw (ne-eqb (start n) t h)
 
 -- one more row goes into its slot
-pub rows-next : (n : ℕ) (start : Plan) (rows : List ℕ) (slot : ℕ) → slot ≡ start n → start n < most-slots → RowsBySlot n start rows
+pub rows-next : (n : ℕ) (start : Plan) (rows : List ℕ) (slot : ℕ) → slot ≡ start n → slot < most-slots → RowsBySlot n start rows
     → RowsBySlot (n + 1) start (set rows slot (n + 1))
 rows-next n start rows slot here h r =
     rw (add-one, here)

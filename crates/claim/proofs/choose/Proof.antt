@@ -3,7 +3,8 @@ use mathlib.Core.Path.{refl, sym}
 use borrow.Author.Needs.{needs}
 use lib.Seq.{length-take-le}
 use Rattle.day.proofs.Cases.{give}
-use Rattle.claim.specs.Choice.{refused, of-own, of-server}
+use Rattle.day.specs.Windows.{windows}
+use Rattle.claim.specs.Choice.{NamesWinner, refused, of-own, of-server}
 use Rattle.claim.proofs.Choice.{chosen-named, named-own, named-server}
 use Rattle.claim.proofs.choose.Statement.{statement}
 use Rattle.claim.proofs.choose.Tie as tie
@@ -22,32 +23,37 @@ returns c =
       handed = refused (c .before .if1 .taken) (record { begins = refl; holds = refl });
     }
 
+-- past the first test the answer names the winner
+named : (c : tie.Else1) →
+    let start = c .before .before .before .before .before .before .before .args in
+    NamesWinner (start .day) (windows (start .releases .now) (start .deadlines .now)) (start .own .now) (start .server .now)
+    (c .before .before .which .result)
+named c = chosen-named _ (c .before .before .which .ensures) (c .if1 .left)
+
 slice-aggregate-result-2 : tie.Need-slice-aggregate-result-2
 slice-aggregate-result-2 c =
-    give (named-own _ (chosen-named _ (c .before .before .before .before .before .which .ensures) (c .before .before .before .if1 .left))
-    (c .before .if2 .taken)) (λ won. sym (length-take-le _ _ (won .0 .long)))
+    give (named-own _ (named (c .before .before .before)) (c .before .if2 .taken)) (λ won. sym (length-take-le _ _ (won .0 .long)))
 
 returns-2 : tie.Need-returns-2
 returns-2 c =
     record {
       answer = _;
       chosen = c .before .before .before .before .before .which .ensures;
-      handed = of-own (named-own _ (chosen-named _ (c .before .before .before .before .before .which .ensures)
-          (c .before .before .before .if1 .left)) (c .before .if2 .taken) .1) (record { begins = refl; holds = refl });
+      handed = of-own (named-own _ (named (c .before .before .before)) (c .before .if2 .taken) .1)
+          (record { begins = refl; holds = refl });
     }
 
 slice-aggregate-result-3 : tie.Need-slice-aggregate-result-3
 slice-aggregate-result-3 c =
-    give (named-server _ (chosen-named _ (c .before .before .before .before .before .which .ensures)
-    (c .before .before .before .if1 .left)) (c .before .if2 .left)) (λ won. sym (length-take-le _ _ (won .0 .long)))
+    give (named-server _ (named (c .before .before .before)) (c .before .if2 .left)) (λ won. sym (length-take-le _ _ (won .0 .long)))
 
 returns-3 : tie.Need-returns-3
 returns-3 c =
     record {
       answer = _;
       chosen = c .before .before .before .before .before .which .ensures;
-      handed = of-server (named-server _ (chosen-named _ (c .before .before .before .before .before .which .ensures)
-          (c .before .before .before .if1 .left)) (c .before .if2 .left) .1) (record { begins = refl; holds = refl });
+      handed = of-server (named-server _ (named (c .before .before .before)) (c .before .if2 .left) .1)
+          (record { begins = refl; holds = refl });
     }
 
 pub choose-spec : {M : Type 1} → statement M

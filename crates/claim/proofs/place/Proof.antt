@@ -19,16 +19,11 @@ returns c =
 
 rows-by-slot-requires : tie.Need-rows-by-slot-requires
 rows-by-slot-requires c κs =
+    let start = c .before .before .before .before .before .before in
     give
-    (passed-fit (windows (c .before .before .before .before .before .before .args .releases .now)
-    (c .before .before .before .before .before .before .args .deadlines .now))
-    (c .before .before .before .before .before .before .args .starts .now) _ (c .before .before .check-starts .ensures)
-    (c .if1 .left))
-    (λ fit. (
-      (c .before .before .before .before .before .before .pre .count, fit .long),
-      fit-below
-          (c .before .before .before .before .before .before .pre) fit,
-    ))
+    (passed-fit (windows (start .args .releases .now) (start .args .deadlines .now)) (start .args .starts .now) _
+    (c .before .before .check-starts .ensures) (c .if1 .left))
+    (λ fit. ((start .pre .count, fit .long), fit-below (start .pre) fit))
 
 returns-2 : tie.Need-returns-2
 returns-2 c =

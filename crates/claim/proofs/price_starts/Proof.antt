@@ -4,10 +4,9 @@ use mathlib.Core.Path.{sym, _∙_, ap}
 use native.Mathlib.Omega.{arith}
 use borrow.Author.Needs.{needs}
 use Rattle.day.specs.Answer.{says, done}
-use Rattle.day.proofs.Cases.{give}
 use Rattle.day.proofs.Refusal.{then-refused}
 use Rattle.claim.proofs.Claim.{placed-next, good-rows-within}
-use Rattle.claim.proofs.Rows.{rows-cut}
+use Rattle.claim.proofs.Rows.{Cut, rows-cut}
 use Rattle.claim.proofs.Walk.{rows-cost-day}
 use Rattle.claim.proofs.price_starts.Statement.{statement}
 use Rattle.claim.proofs.price_starts.Tie as tie
@@ -21,49 +20,37 @@ returns c = then-refused _ (c .before .before .before .place .ensures .answer) (
 wide-requires : tie.Need-wide-requires
 wide-requires c κs = search needs
 
+-- the day's slots are a part of the rows
+cut : (c : tie.After-wide) → Cut (c .before .before .before .before .before .place .result .rows) (c .wide .result)
+cut c =
+    let placed = c .before .before .before .before .before in
+    let start = placed .before .before .before .before in
+    rows-cut (placed .place .ensures .rows .accepted (c .before .before .if1 .left)) (c .wide .result)
+    (omega (arith, c .wide .ensures, start .pre .slots))
+
 array-share-prefix-rows : tie.Need-array-share-prefix-rows
-array-share-prefix-rows c =
-    rows-cut (c .before .before .before .before .before .place .ensures .rows .accepted (c .before .before .if1 .left)) (c .wide .result)
-    (omega (arith, c .wide .ensures, c .before .before .before .before .before .before .before .before .before .pre .slots)) .room
+array-share-prefix-rows c = cut c .room
 
 slice-aggregate-cost : tie.Need-slice-aggregate-cost
-slice-aggregate-cost c =
-    sym (rows-cut (c .before .before .before .before .before .before .place .ensures .rows .accepted
-    (c .before .before .before .if1 .left)) (c .before .wide .result)
-    (omega (
-      arith,
-      c .before .wide .ensures,
-      c .before .before .before .before .before .before .before .before .before .before .pre
-          .slots,
-    )) .long)
+slice-aggregate-cost c = sym (cut (c .before) .long)
 
 cost-requires : tie.Need-cost-requires
-cost-requires c κs =
-    give (rows-cut (c .before .before .before .before .before .before .place .ensures .rows .accepted
-    (c .before .before .before .if1 .left)) (c .before .wide .result)
-    (omega (
-      arith,
-      c .before .wide .ensures,
-      c .before .before .before .before .before .before .before .before .before .before .pre
-          .slots,
-    )))
-    (λ cut. omega (arith, cut .long, cut .small))
+cost-requires c κs = omega (arith, cut (c .before) .long, cut (c .before) .small)
 
 done-requires : tie.Need-done-requires
 done-requires c κs = search needs
 
 returns-2 : tie.Need-returns-2
 returns-2 c =
-    placed-next (c .before .before .before .before .before .before .before .before .place .ensures)
-    (c .before .before .before .before .before .if1 .left) _
+    let taken = c .before .before .before in
+    let placed = taken .before .before .before .before .before in
+    let start = placed .before .before .before .before in
+    let passed = taken .before .before .if1 .left in
+    placed-next (placed .place .ensures) passed _
     (c .done .ensures
     ∙ ap (λ (x : ℕ). says done x 0)
     (c .before .cost .ensures
-    ∙ rows-cost-day (c .before .before .before .before .before .before .before .before .before .before .before .before .args .day)
-    (c .before .before .before .wide .ensures .0)
-    (c .before .before .before .before .before .before .before .before .before .before .before .before .pre .slots)
-    (c .before .before .before .before .before .before .before .before .place .ensures .rows .accepted
-    (c .before .before .before .before .before .if1 .left))))
+    ∙ rows-cost-day (start .args .day) (taken .wide .ensures .0) (start .pre .slots) (placed .place .ensures .rows .accepted passed)))
 
 pub price-starts-spec : {M : Type 1} → statement M
 price-starts-spec =

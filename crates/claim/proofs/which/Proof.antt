@@ -25,12 +25,10 @@ cheaper-requires c κs = search needs
 
 returns-2 : tie.Need-returns-2
 returns-2 c =
-    then-passed list-is-check _ _ (c .before .before .before .before .before .check-list .ensures) (c .before .before .before .if1 .left)
-    (compared-named (c .before .before .before .before .before .before .before .before .before .before .args .day)
-    (windows (c .before .before .before .before .before .before .before .before .before .before .args .releases .now)
-    (c .before .before .before .before .before .before .before .before .before .before .args .deadlines .now))
-    (c .before .before .before .before .before .before .before .before .before .before .args .own .now)
-    (c .before .before .before .before .before .before .before .before .before .before .args .server .now) _ _ _
+    let judged = c .before .before .before in
+    let start = judged .before .before .before .before .before .before .before .args in
+    then-passed list-is-check _ _ (judged .before .before .check-list .ensures) (judged .if1 .left)
+    (compared-named (start .day) (windows (start .releases .now) (start .deadlines .now)) (start .own .now) (start .server .now) _ _ _
     (c .before .before .price-starts .ensures) (c .before .price-starts2 .ensures) (c .cheaper .ensures))
 
 pub which-spec : {M : Type 1} → statement M

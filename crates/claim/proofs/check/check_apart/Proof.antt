@@ -6,7 +6,7 @@ use borrow.Author.Needs.{needs}
 use Rattle.day.specs.Refusal.{stops, goes-on}
 use Rattle.day.specs.Answer.{says, done}
 use Rattle.claim.specs.Claim.{Together}
-use Rattle.claim.proofs.Pair.{ClearBelow, AloneBelow, clear-next, alone-next}
+use Rattle.claim.proofs.Pair.{ClearBelow, AloneBelow, clear-below-next, alone-below-next}
 use Rattle.claim.proofs.check.check_apart.Statement.{statement}
 use Rattle.claim.proofs.check.check_apart.Tie as tie
 
@@ -67,18 +67,12 @@ loop-less : tie.Need-loop-less Inv-loop μ-loop Inv-rows μ-rows
 loop-less c = search needs
 
 loop-again : tie.Need-loop-again Inv-loop μ-loop Inv-rows μ-rows
-loop-again c = (
-  search needs,
-  (
-    search needs,
-    (
+loop-again c =
+    let looked = c .before .before .before .before in
+    let start = looked .before .before .before .before .before in (
       search needs,
-      alone-next (Together
-          (c .before .before .before .before .before .before .before .before .before .args .starts .now)) _ _
-          (c .before .before .before .before .loop .inv .1 .1 .1) (c .if1 .left),
-    ),
-  ),
-)
+      (search needs, (search needs, alone-below-next (Together (start .args .starts .now)) _ _ (looked .loop .inv .1 .1 .1) (c .if1 .left))),
+    )
 
 add-row : tie.Need-add-row Inv-loop μ-loop Inv-rows μ-rows
 add-row c = search needs
@@ -91,7 +85,7 @@ rows-again c = (
   search needs,
   (
     search needs,
-    clear-next _ _ _ (c .before .before .before .rows .inv .1 .1)
+    clear-below-next _ _ _ (c .before .before .before .rows .inv .1 .1)
         (λ l h k. c .before .loop .inv .1 .1 .1 l h (omega arith)),
   ),
 )
@@ -103,15 +97,17 @@ returns c =
 
 returns-2 : tie.Need-returns-2 Inv-loop μ-loop Inv-rows μ-rows
 returns-2 c =
+    let looked = c .before .before .before .before in
+    let walked = looked .before .before in
     stops (record {
-      row = c .before .before .before .before .before .before .rows .row;
-      partner = c .before .before .before .before .loop .partner;
+      row = walked .rows .row;
+      partner = looked .loop .partner;
       first = record {
         order = search needs;
         within = search needs;
         fault = c .if1 .taken;
-        lowest = c .before .before .before .before .before .before .rows .inv .1 .1;
-        partner = c .before .before .before .before .loop .inv .1 .1 .1;
+        lowest = walked .rows .inv .1 .1;
+        partner = looked .loop .inv .1 .1 .1;
       };
       says = refl;
     })

@@ -35,12 +35,9 @@ price-requires c κs = search needs
 
 add-cost : tie.Need-add-cost Inv-loop μ-loop
 add-cost c =
-    omega (
-      arith,
-      c .price .ensures,
-      price-at-most-length (c .before .before .before .before .before .before .before .args .power)
-          (c .before .before .before .before .loop .empty),
-    )
+    let walked = c .before .before .before .before in
+    let start = walked .before .before .before in
+    omega (arith, c .price .ensures, price-at-most-length (start .args .power) (walked .loop .empty))
 
 add-slot : tie.Need-add-slot Inv-loop μ-loop
 add-slot c = search needs
@@ -50,11 +47,11 @@ loop-less c = search needs
 
 loop-again : tie.Need-loop-again Inv-loop μ-loop
 loop-again c =
+    let walked = c .before .before .before .loop .inv in
+    let within = c .before .before .loop-test .taken in
     ⊎-elim
-    (λ w. rw (w .1) (paying-empty (c .before .before .before .loop .inv) (c .before .before .loop-test .taken) (w .0 .taken) (w .2)))
-    (λ w.
-    paying-job (c .before .before .before .loop .inv) (c .before .before .loop-test .taken) (w .0 .left) (w .1 .ensures) (w .2)
-    (w .3))
+    (λ w. rw (w .1) (paying-empty walked within (w .0 .taken) (w .2)))
+    (λ w. paying-job walked within (w .0 .left) (w .1 .ensures) (w .2) (w .3))
     (c .if1 .came)
 
 returns : tie.Need-returns Inv-loop μ-loop

@@ -1,9 +1,10 @@
 -- `claim::slots::rows_by_slot` meets its contract. Assumes nothing.
-use Prim.Native.Nat.{_≤_, _-_}
+use Prim.Native.Nat.{_≤_, _<_, _-_}
 use mathlib.Core.Path.{_≡_}
 use native.Mathlib.Omega.{arith}
 use borrow.Author.Needs.{needs}
 use Rattle.day.specs.Windows.{at}
+use Rattle.day.specs.Check.{most-slots}
 use Rattle.claim.specs.Rows.{RowsBySlot}
 use Rattle.claim.proofs.Rows.{rows-none, rows-next}
 use Rattle.claim.proofs.slots.rows_by_slot.Statement.{statement}
@@ -33,12 +34,17 @@ shared-slice-read-wide c = search needs
 wide-requires : tie.Need-wide-requires Inv-loop μ-loop
 wide-requires c κs = search needs
 
+-- the row starts in a slot of the day
+in-day : (c : tie.After-wide Inv-loop μ-loop) → c .wide .result < most-slots
+in-day c =
+    let start = c .before .before .before .before .before in
+    omega (arith, c .wide .ensures, start .pre .1 _ (c .before .before .loop-test .taken))
+
 mul-rows : tie.Need-mul-rows Inv-loop μ-loop
-mul-rows c = omega (arith, c .wide .ensures, c .before .before .before .before .before .pre .1 _ (c .before .before .loop-test .taken))
+mul-rows c = omega (arith, in-day c)
 
 array-write-rows : tie.Need-array-write-rows Inv-loop μ-loop
-array-write-rows c =
-    omega (arith, c .wide .ensures, c .before .before .before .before .before .pre .1 _ (c .before .before .loop-test .taken))
+array-write-rows c = in-day c
 
 add-row : tie.Need-add-row Inv-loop μ-loop
 add-row c = search needs
@@ -47,11 +53,7 @@ loop-less : tie.Need-loop-less Inv-loop μ-loop
 loop-less c = search needs
 
 loop-again : tie.Need-loop-again Inv-loop μ-loop
-loop-again c = (
-  search needs,
-  rows-next _ _ _ _ (c .wide .ensures .0) (c .before .before .before .before .before .pre .1 _ (c .before .before .loop-test .taken))
-      (c .before .before .before .loop .inv .1),
-)
+loop-again c = (search needs, rows-next _ _ _ _ (c .wide .ensures .0) (in-day c) (c .before .before .before .loop .inv .1))
 
 returns : tie.Need-returns Inv-loop μ-loop
 returns c = let e : c .before .loop .row ≡ c .before .before .before .args .count = omega arith in rw e at (c .before .loop .inv .1)
