@@ -3,8 +3,8 @@ use mathlib.Core.Path.{refl, sym}
 use native.Mathlib.Omega.{arith}
 use borrow.Author.Needs.{needs}
 use Rattle.day.specs.Refusal.{stops, goes-on}
-use Rattle.day.proofs.Cases.{give}
 use Rattle.day.proofs.Refusal.{then-refused}
+use Rattle.claim.proofs.Rows.{Cut}
 use Rattle.claim.proofs.Claim.{judged-next, judged-says, judged-slots, judged-cut}
 use Rattle.ledger.proofs.Same.{plan-filled}
 use Rattle.ledger.proofs.slot.Statement.{statement}
@@ -47,44 +47,42 @@ returns-2 c =
 wide-requires : tie.Need-wide-requires
 wide-requires c κs = search needs
 
-array-share-prefix-rows : tie.Need-array-share-prefix-rows
-array-share-prefix-rows c =
+-- the day's slots are a part of the rows
+cut : (c : tie.After-wide) → Cut (c .before .before .before .before .before .before .before .judge .result .rows) (c .wide .result)
+cut c =
     judged-cut (c .before .before .before .before .before .before .before .judge .ensures) (c .before .before .before .before .if1 .left)
-    (c .wide .result) (c .wide .ensures .0) .room
+    (c .wide .result) (c .wide .ensures .0)
+
+array-share-prefix-rows : tie.Need-array-share-prefix-rows
+array-share-prefix-rows c = cut c .room
 
 slice-aggregate-fill-at : tie.Need-slice-aggregate-fill-at
-slice-aggregate-fill-at c =
-    sym (judged-cut (c .before .before .before .before .before .before .before .before .judge .ensures)
-    (c .before .before .before .before .before .if1 .left) (c .before .wide .result) (c .before .wide .ensures .0) .long)
+slice-aggregate-fill-at c = sym (cut (c .before) .long)
 
 wide-requires-2 : tie.Need-wide-requires-2
 wide-requires-2 c κs = search needs
 
 fill-at-requires : tie.Need-fill-at-requires
 fill-at-requires c κs =
-    give (judged-cut (c .before .before .before .before .before .before .before .before .before .judge .ensures)
-    (c .before .before .before .before .before .before .if1 .left) (c .before .before .wide .result) (c .before .before .wide .ensures .0))
-    (λ cut. (
-      omega (arith, cut .long, cut .small),
-      omega
-          (arith, cut .long, c .before .before .wide .ensures, c .wide2 .ensures, c .before .before .before .before .if2 .left),
-    ))
+    let taken = c .before .before in (
+      omega (arith, cut taken .long, cut taken .small),
+      omega (arith, cut taken .long, taken .wide .ensures, c .wide2 .ensures, taken .before .before .if2 .left),
+    )
 
 returns-3 : tie.Need-returns-3
 returns-3 c =
-    give (c .before .before .before .before .before .before .before .before .before .before .judge .ensures)
-    (λ judged.
+    let taken = c .before .before .before in
+    let within = taken .before .before .if2 .left in
+    let passed = taken .before .before .before .before .if1 .left in
+    let judged = taken .before .before .before .before .before .before .before .judge .ensures in
     record {
-      answer =
-          judged-next judged (c .before .before .before .before .before .before .before .if1 .left) _
-          (goes-on (λ a r. omega (arith, r .fault, c .before .before .before .before .before .if2 .left))
-          (judged-says judged (c .before .before .before .before .before .before .before .if1 .left)));
+      answer = judged-next judged passed _ (goes-on (λ a r. omega (arith, r .fault, within)) (judged-says judged passed));
       slot = λ e. refl;
       fill = λ e.
-          plan-filled (judged-slots judged e) (judged .rows .accepted e) (c .before .before .before .before .before .if2 .left)
-          (rw (c .before .before .before .wide .ensures .0, c .before .wide2 .ensures .0) at (c .fill-at .ensures));
-      refused = λ e. absurd (e (c .before .before .before .before .before .before .before .if1 .left));
-    })
+          plan-filled (judged-slots judged e) (judged .rows .accepted e) within
+          (rw (taken .wide .ensures .0, c .before .wide2 .ensures .0) at (c .fill-at .ensures));
+      refused = λ e. absurd (e passed);
+    }
 
 pub slot-spec : {M : Type 1} → statement M
 slot-spec =

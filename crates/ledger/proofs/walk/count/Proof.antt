@@ -55,14 +55,11 @@ loop-less c = search needs
 
 loop-again : tie.Need-loop-again Inv-loop μ-loop
 loop-again c =
+    let walked = c .before .before .before .loop .inv in
+    let within = c .before .before .loop-test .taken in
     ⊎-elim
-    (λ w.
-    rw (w .1, w .2, w .3)
-    (walked-empty (c .before .before .before .loop .inv) (c .before .before .loop-test .taken) (w .0 .taken) (w .4)))
-    (λ w.
-    walked-job (c .before .before .before .loop .inv) (c .before .before .loop-test .taken) (w .0 .left) (w .1 .ensures) (w .4) (w .3)
-    (w .2)
-    (w .5))
+    (λ w. rw (w .1, w .2, w .3) (walked-empty walked within (w .0 .taken) (w .4)))
+    (λ w. walked-job walked within (w .0 .left) (w .1 .ensures) (w .4) (w .3) (w .2) (w .5))
     (c .if1 .came)
 
 cast-t15 : tie.Need-cast-t15 Inv-loop μ-loop
