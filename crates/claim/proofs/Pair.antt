@@ -17,7 +17,8 @@ ClearBelow n Fault i = (k l : ℕ) → k < i → k < l → l < n → Fault k l �
 abbrev pub AloneBelow : (ℕ → ℕ → Type 0) → ℕ → ℕ → Type 0
 AloneBelow Fault i j = (l : ℕ) → i < l → l < j → Fault i l → ⊥
 
-pub clear-below-next : (n : ℕ) (Fault : ℕ → ℕ → Type 0) (i : ℕ) → ClearBelow n Fault i → AloneBelow Fault i n → ClearBelow n Fault (i + 1)
+pub clear-below-next : (n : ℕ) (Fault : ℕ → ℕ → Type 0) (i : ℕ) → ClearBelow n Fault i → AloneBelow Fault i n
+    → ClearBelow n Fault (i + 1)
 clear-below-next n Fault i clear alone k l below order within =
     on-eq k i (λ e. rw e (alone l (omega arith) within)) (λ e. clear k l (omega arith) order within)
 

@@ -40,8 +40,8 @@ module _ {rows : List ℕ} {slot start : ℕ} (here : Empty (at rows) slot) (run
       (λ k. run .empty u h k)
 
   -- with no job from there on it is after the last
-  pub run-after : {power : Power} {end : ℕ} → (start ≡ 0 → ⊥) → NextJob rows slot end → end ≡ length rows → Fills power (length rows)
-      (at rows) slot After
+  pub run-after : {power : Power} {end : ℕ} → (start ≡ 0 → ⊥) → NextJob rows slot end → end ≡ length rows
+      → Fills power (length rows) (at rows) slot After
   run-after some next e =
       after-last (start - 1) (omega (arith, run .earlier)) (run .job (omega arith)) (λ u h l. clear-to next u (omega arith) (omega arith))
 

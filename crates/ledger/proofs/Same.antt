@@ -65,6 +65,6 @@ module _ {power : Power} {n slots : ℕ} {start : Plan} {rows : List ℕ} (withi
       → Fills power slots (row-at n start) t f
   plan-filled l p = fills-same (λ u h. rows-each r slots u within h) l (rw (rows-cut r slots within .long) at p)
 
-  pub plan-counted : {c : Counts} → Counted power (length (take slots rows)) (at (take slots rows)) c → Counted power slots
-      (row-at n start) c
+  pub plan-counted : {c : Counts} → Counted power (length (take slots rows)) (at (take slots rows)) c
+      → Counted power slots (row-at n start) c
   plan-counted p = counted-same (λ u h. rows-each r slots u within h) (rw (rows-cut r slots within .long) at p)

@@ -85,8 +85,8 @@ module _ {power : Power} {slots : ℕ} {row : ℕ → ℕ} where
       ))
 
   -- a job ends the gap of the slots that wait
-  gap-around : {first job awake asleep empty slot : ℕ} → Walked power slots row first job awake asleep empty slot → slot < slots → Busy row
-      slot
+  gap-around : {first job awake asleep empty slot : ℕ} → Walked power slots row first job awake asleep empty slot
+      → slot < slots → Busy row slot
       → (u : ℕ) → slot - empty ≤ u → u < slot → InGap slots row u empty
   gap-around {first} {job} {awake} {asleep} {empty} {slot} p within busy u h l =
       give (p .last (omega (arith, p .sum)))
@@ -122,9 +122,9 @@ module _ {power : Power} {slots : ℕ} {row : ℕ → ℕ} where
 
   pub walked-job : {first job awake asleep empty slot dark job' awake' asleep' empty' : ℕ}
       → Walked power slots row first job awake asleep empty slot
-      → slot < slots → Busy row slot → dark ≡ cond (sleeping power empty) empty 0 → asleep' ≡ asleep + dark → awake' ≡ awake +
-      (empty - dark)
-      → job' ≡ job + 1 → empty' ≡ 0 → Walked power slots row first job' awake' asleep' empty' (slot + 1)
+      → slot < slots → Busy row slot → dark ≡ cond (sleeping power empty) empty 0
+      → asleep' ≡ asleep + dark → awake' ≡ awake + (empty - dark) → job' ≡ job + 1 → empty' ≡ 0
+      → Walked power slots row first job' awake' asleep' empty' (slot + 1)
   unfolding gain
   walked-job {first} {job} {awake} {asleep} {empty} {slot} {dark} p within busy d a w j e =
       rw (a, w, j, e)
