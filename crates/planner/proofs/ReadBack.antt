@@ -1,5 +1,5 @@
 -- The laws of reading back: a job that isn't released in the span is passed over, one that is splits it. Assumes nothing.
-use Prim.Native.Nat.{ℕ, suc, _+_, _-_, _≤_, _<_}
+use Prim.Native.Nat.{ℕ, zero, suc, _+_, _-_, _≤_, _<_}
 use mathlib.Core.Path.{_≡_, refl, sym, _∙_}
 use mathlib.Core.List.{List}
 use native.Mathlib.Numerals.{add-one}
@@ -63,11 +63,23 @@ module _ (P : Problem) where
           ∙ getD-set-other old k i v 0 (λ q. n (rw q (omega arith, inside .0, inside .1)));
     }
 
-  -- the same, as code has it
-  pub back-passed : (n k s e : ℕ) (old new : List ℕ) → n ≡ suc k → (In P s e k → ⊥) → ReadBack P k s e old new
+  -- so are all above the highest that is
+  pub back-passed : (n k s e : ℕ) (old new : List ℕ) → k ≤ n → ((i : ℕ) → k ≤ i → i < n → In P s e i → ⊥) → ReadBack P k s e old new
       → ReadBack P n s e old new
-  back-passed n k s e old new p out r = rw p (back-out k s e old new out r)
+  back-passed zero k s e old new h out r = let z : k ≡ zero = omega arith in rw z at r
+  back-passed (suc n) k s e old new h out r =
+      on-eq k (suc n) (λ q. rw q at r)
+      (λ q. back-out n s e old new (out n (omega arith) (omega arith))
+      (back-passed n k s e old new (omega arith) (λ i l u. out i l (omega arith)) r))
 
+  value-passed : (n k s e : ℕ) → k ≤ n → ((i : ℕ) → k ≤ i → i < n → In P s e i → ⊥) → value P n s e ≡ value P k s e
+  value-passed zero k s e h out = let z : k ≡ zero = omega arith in rw z refl
+  value-passed (suc n) k s e h out =
+      on-eq k (suc n) (λ q. rw q refl)
+      (λ q. value-out P n s e (out n (omega arith) (omega arith))
+      ∙ value-passed n k s e (omega arith) (λ i l u. out i l (omega arith)))
+
+  -- as code has it
   pub back-split : (n k s e t : ℕ) (old left new : List ℕ) → n ≡ suc k → t ≡ split P k s e → In P s e k
       → LatestBest P k s e (split P k s e) → 1 ≤ t → k < length old → ReadBack P k s t (set old k (t - 1)) left
       → ReadBack P k (t + 1) e left new → ReadBack P n s e old new
@@ -93,9 +105,6 @@ module _ {day : Day} {rel dead lowest table : List ℕ} {n s e : ℕ} (r : Reada
     some = h;
   }
 
-  pub readable-out : (In P s e k → ⊥) → Readable day rel dead lowest table k s e
-  readable-out out = fewer s e (r .span) (omega (arith, some, value-out P k s e out))
-
   module _ (inside : In P s e k) where
     pub readable-split : LatestBest P k s e (split P k s e)
     readable-split = split-found P k s e inside some
@@ -111,3 +120,14 @@ module _ {day : Day} {rel dead lowest table : List ℕ} {n s e : ℕ} (r : Reada
         give readable-split
         (λ b. rw (add-one, q) (fewer (suc (split P k s e)) e (b .below, r .span .1)
         (omega (arith, some, b .best, sides-is P k s e (split P k s e)))))
+
+-- where the jobs from k on are not released in the span, the table has a plan for the jobs below
+pub readable-passed : {day : Day} {rel dead lowest table : List ℕ} {n s e : ℕ} → Readable day rel dead lowest table n s e → (k : ℕ)
+    → k ≤ n → ((i : ℕ) → k ≤ i → i < n → In (jobs day rel dead) s e i → ⊥) → Readable day rel dead lowest table k s e
+readable-passed {day} {rel} {dead} {lowest} {table} {n} {s} {e} r k h out = record {
+  prepared = prepared-fewer (r .prepared) k h;
+  long = omega (arith, r .long, need-more (day .slots) k n h);
+  levels = λ i l. r .levels i (omega arith);
+  span = r .span;
+  some = omega (arith, r .some, value-passed (jobs day rel dead) n k s e h out);
+}

@@ -1,5 +1,5 @@
 -- The plan read back from the table.
-use Prim.Native.Nat.{ℕ, _+_, _≤_, _<_}
+use Prim.Native.Nat.{ℕ, suc, _+_, _≤_, _<_}
 use mathlib.Core.Path.{_≡_}
 use mathlib.Core.Bool.{Bool, true, false}
 use mathlib.Core.List.{List}
@@ -23,6 +23,12 @@ pub record Readable (day : Day) (rel dead lowest table : List ℕ) (k s e : ℕ)
 pub record Tells (b : Bool) (s e r : ℕ) : Type 0 where
   pub yes : b ≡ true → (s ≤ r) × (r < e)
   pub no : b ≡ false → (s ≤ r) × (r < e) → ⊥
+
+-- the highest of the lowest n jobs released from s on and before e is one less than k; there is none where k is 0
+pub record UpToInside (release : ℕ → ℕ) (s e n k : ℕ) : Type 0 where
+  pub some-of : k ≤ n
+  pub higher : (i : ℕ) → k ≤ i → i < n → (s ≤ release i) × (release i < e) → ⊥
+  pub highest : (i : ℕ) → k ≡ suc i → (s ≤ release i) × (release i < e)
 
 -- job i is one of the lowest k and released in the span from s to e
 abbrev pub Among : Problem → ℕ → ℕ → ℕ → ℕ → Type 0

@@ -6,7 +6,7 @@ ghost use Rattle.day.specs.Windows.{at};
 ghost use Rattle.rule.specs.Span.{split};
 ghost use Rattle.planner.specs.Written.{Written};
 ghost use Rattle.planner.specs.Jobs.{jobs};
-ghost use Rattle.planner.specs.ReadBack.{Readable, Tells, ReadBack};
+ghost use Rattle.planner.specs.ReadBack.{Readable, Tells, UpToInside, ReadBack};
 use crate::fill;
 use crate::rows;
 use day::Day;
@@ -56,6 +56,21 @@ fn inside(rel: &[u16], job: usize, from: usize, to: usize) -> bool
     if from <= release { release < to } else { false }
 }
 
+// How many jobs there are up to the highest of the lowest `count` that is released in the span from `from` to `to`: 0 where none is.
+fn up_to_inside(rel: &[u16], count: usize, from: usize, to: usize) -> usize
+    requires { ⌜ count ≤ length (now rel) ⌝ }
+    ensures { λ r. ⌜ UpToInside (at (now (rel .entry))) from to count r ⌝ }
+{
+    let mut left = count;
+    while 0 < left {
+        if inside(rel, left - 1, from, to) {
+            return left;
+        }
+        left -= 1;
+    }
+    0
+}
+
 // Reads back, by number, the starts of the lowest `count` jobs that are released in the span from `from` to `to`: the highest of them
 // splits the span, then each side in turn. A start is a slot again, one less than its point.
 pub(crate) fn read_back(
@@ -73,38 +88,25 @@ pub(crate) fn read_back(
     requires { ⌜ count ≤ length (now starts) ⌝ }
     ensures { λ _. ⌜ ReadBack (jobs day (now (rel .entry)) (now (dead .entry))) count from to (now (starts .entry)) (now (starts .exit)) ⌝ }
 {
-    if count == 0 {
+    let left = up_to_inside(rel, count, from, to);
+    if left == 0 {
         return;
     }
-    let job = count - 1;
-    if inside(rel, job, from, to) {
-        let split = split_of(day, rel, dead, lowest, table, job, from, to);
-        starts[job] = (split - 1) as u16;
-        read_back(
-            job,
-            from,
-            split,
-            day,
-            rel,
-            dead,
-            lowest,
-            table,
-            &mut *starts,
-        );
-        read_back(
-            job,
-            split + 1,
-            to,
-            day,
-            rel,
-            dead,
-            lowest,
-            table,
-            &mut *starts,
-        );
-        return;
-    }
-    read_back(job, from, to, day, rel, dead, lowest, table, &mut *starts);
+    let job = left - 1;
+    let split = split_of(day, rel, dead, lowest, table, job, from, to);
+    starts[job] = (split - 1) as u16;
+    read_back(
+        job,
+        from,
+        split,
+        day,
+        rel,
+        dead,
+        lowest,
+        table,
+        &mut *starts,
+    );
+    read_back(job, split + 1, to, day, rel, dead, lowest, table, starts);
 }
 
 // Writes starts by number out in row order.
