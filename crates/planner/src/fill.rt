@@ -9,7 +9,7 @@ ghost use Rattle.rule.specs.Span.{value};
 ghost use Rattle.planner.specs.Table.{place, need};
 ghost use Rattle.planner.specs.Written.{Written, itself, lowered};
 ghost use Rattle.planner.specs.Jobs.{none, jobs, Prepared};
-ghost use Rattle.planner.specs.Level.{Level, Rows, Filled};
+ghost use Rattle.planner.specs.Level.{Rows, Fillable, Filled};
 use crate::rows;
 use day::Day;
 use day::wide;
@@ -47,8 +47,7 @@ fn add_splits(
     table: &[u16],
     sums: &mut [u16],
 )
-    requires { ⌜ Prepared day (now rel) (now dead) (now lowest) (job + 1) ⌝ }
-    requires { ⌜ (need (day .slots) job ≤ length (now table)) × Level (jobs day (now rel) (now dead)) (day .slots) job (now table) ⌝ }
+    requires { ⌜ Fillable day (now rel) (now dead) (now lowest) (now table) job ⌝ }
     requires { ⌜ (from ≤ at (now rel) job) × (day .slots + 3 ≤ length (now sums)) ⌝ }
     requires { ⌜ ((e : ℕ) → e ≤ day .slots + 2 → at (now sums) e ≡ none) ⌝ }
     ensures { λ _. ⌜ (length (now (sums .exit)) ≡ length (now (sums .entry))) × ((e : ℕ) → at (now (rel .entry)) job < e → e ≤ day .slots + 2 → at (now (sums .exit)) e ≡ value (jobs day (now (rel .entry)) (now (dead .entry))) (job + 1) from e) ⌝ }
@@ -67,9 +66,9 @@ fn add_splits(
     }
 }
 
-// Fills the row of the lowest `job + 1` jobs from the point `from` on. Where `job` isn't released in the span, the level below has
-// the value.
-fn fill_row(
+// Fills the row of the lowest `job + 1` jobs from a point on that isn't after the release of `job`: to the release the level below has
+// the value, after it the sums.
+fn sum_row(
     day: Day,
     rel: &[u16],
     dead: &[u16],
@@ -78,51 +77,55 @@ fn fill_row(
     from: usize,
     table: &mut [u16],
 )
-    requires { ⌜ Prepared day (now rel) (now dead) (now lowest) (job + 1) ⌝ }
-    requires { ⌜ (need (day .slots) (job + 1) ≤ length (now table)) × Level (jobs day (now rel) (now dead)) (day .slots) job (now table) ⌝ }
-    requires { ⌜ from ≤ day .slots + 2 ⌝ }
+    requires { ⌜ Fillable day (now rel) (now dead) (now lowest) (now table) job ⌝ }
+    requires { ⌜ from ≤ at (now rel) job ⌝ }
     ensures { λ _. ⌜ Written (place (day .slots) (job + 1) from) from (day .slots + 3) (value (jobs day (now (rel .entry)) (now (dead .entry))) (job + 1) from) (now (table .entry)) (now (table .exit)) ⌝ }
 {
     let width = wide(day.slots) + 3;
+    let after = wide(rel[job]) + 1;
     let below = rows::row_of(day.slots, job, from);
     let here = rows::row_of(day.slots, job + 1, from);
-    let release = wide(rel[job]);
-    if release < from {
-        rows::copy(table, below, here, from, width);
-        return;
-    }
-    rows::copy(&mut *table, below, here, from, release + 1);
+    rows::copy(&mut *table, below, here, from, after);
     let mut sums = [NONE; 99];
     add_splits(day, rel, dead, lowest, job, from, &*table, &mut sums);
-    rows::store(table, here, &sums, release + 1, width);
+    rows::store(table, here, &sums, after, width);
 }
 
-// Fills the level of the lowest `job + 1` jobs.
-fn fill_level(day: Day, rel: &[u16], dead: &[u16], lowest: &[u16], job: usize, table: &mut [u16])
-    requires { ⌜ Prepared day (now rel) (now dead) (now lowest) (job + 1) ⌝ }
-    requires { ⌜ (need (day .slots) (job + 1) ≤ length (now table)) × Level (jobs day (now rel) (now dead)) (day .slots) job (now table) ⌝ }
-    ensures { λ _. ⌜ Rows (day .slots) (job + 1) (day .slots + 3) (value (jobs day (now (rel .entry)) (now (dead .entry))) (job + 1)) (now (table .entry)) (now (table .exit)) ⌝ }
+// Fills the rows from the points up to the release of `job`.
+fn sum_rows(day: Day, rel: &[u16], dead: &[u16], lowest: &[u16], job: usize, table: &mut [u16])
+    requires { ⌜ Fillable day (now rel) (now dead) (now lowest) (now table) job ⌝ }
+    ensures { λ _. ⌜ Rows (day .slots) (job + 1) 0 (at (now (rel .entry)) job + 1) (value (jobs day (now (rel .entry)) (now (dead .entry))) (job + 1)) (now (table .entry)) (now (table .exit)) ⌝ }
 {
-    let width = wide(day.slots) + 3;
+    let after = wide(rel[job]) + 1;
     let mut from = 0;
-    while from < width {
-        fill_row(day, rel, dead, lowest, job, from, &mut *table);
+    while from < after {
+        sum_row(day, rel, dead, lowest, job, from, &mut *table);
         from += 1;
     }
 }
 
+// Fills the level of the lowest `job + 1` jobs. In spans that begin after the release of `job` it isn't, so the level below has the values.
+fn fill_level(day: Day, rel: &[u16], dead: &[u16], lowest: &[u16], job: usize, table: &mut [u16])
+    requires { ⌜ Fillable day (now rel) (now dead) (now lowest) (now table) job ⌝ }
+    ensures { λ _. ⌜ Rows (day .slots) (job + 1) 0 (day .slots + 3) (value (jobs day (now (rel .entry)) (now (dead .entry))) (job + 1)) (now (table .entry)) (now (table .exit)) ⌝ }
+{
+    sum_rows(day, rel, dead, lowest, job, &mut *table);
+    let after = wide(rel[job]) + 1;
+    rows::copy_level(table, day.slots, job, after);
+}
+
 // What it costs from a point to a later one with no job between them: a far end costs a wake.
-fn far_price(day: Day, from: usize, to: usize) -> u16
-    requires { ⌜ (from ≤ to) × (to ≤ day .slots + 2) ⌝ }
+fn far_price(day: Day, from: u16, to: u16) -> u16
+    requires { ⌜ (day .slots ≤ most-slots) × (from ≤ to) × (to ≤ day .slots + 2) ⌝ }
     ensures { λ r. ⌜ r ≡ far-price day from to ⌝ }
 {
     if from == 0 {
         return day.power.wake;
     }
-    if to == wide(day.slots) + 2 {
+    if to == day.slots + 2 {
         return day.power.wake;
     }
-    day.power.price((to - from) as u16)
+    day.power.price(to - from)
 }
 
 // Fills the row of no jobs from the point `from` on.
@@ -134,7 +137,7 @@ fn price_row(day: Day, from: usize, table: &mut [u16])
     let width = wide(day.slots) + 3;
     let mut e = from;
     while e < width {
-        table[here + e] = far_price(day, from, e);
+        table[here + e] = far_price(day, from as u16, e as u16);
         e += 1;
     }
 }
@@ -142,7 +145,7 @@ fn price_row(day: Day, from: usize, table: &mut [u16])
 // Fills the level of no jobs.
 fn price_level(day: Day, table: &mut [u16])
     requires { ⌜ (day .slots ≤ most-slots) × (need (day .slots) 0 ≤ length (now table)) ⌝ }
-    ensures { λ _. ⌜ Rows (day .slots) 0 (day .slots + 3) (far-price day) (now (table .entry)) (now (table .exit)) ⌝ }
+    ensures { λ _. ⌜ Rows (day .slots) 0 0 (day .slots + 3) (far-price day) (now (table .entry)) (now (table .exit)) ⌝ }
 {
     let width = wide(day.slots) + 3;
     let mut from = 0;

@@ -3,8 +3,10 @@ ghost use mathlib.Core.Path.{_≡_};
 ghost use Prim.Native.Nat.{_+_, _<_, _≤_};
 ghost use lib.ListN.{length};
 ghost use Rattle.day.specs.Windows.{at};
+ghost use Rattle.day.specs.Check.{most-slots};
 ghost use Rattle.planner.specs.Table.{Span, row, place, need};
 ghost use Rattle.planner.specs.Written.{Written, after, along, Apart};
+ghost use Rattle.planner.specs.Level.{Rows};
 use day::wide;
 
 // What lies before the row of the lowest `jobs` jobs and the point `from`.
@@ -43,6 +45,22 @@ pub(crate) fn copy(table: &mut [u16], from: usize, to: usize, lo: usize, hi: usi
     while e < hi {
         table[to + e] = table[from + e];
         e += 1;
+    }
+}
+
+// Copies the rows of the lowest `jobs` jobs from the point `first` on to the next level.
+pub(crate) fn copy_level(table: &mut [u16], slots: u16, jobs: usize, first: usize)
+    requires { ⌜ (slots ≤ most-slots) × (jobs < 65535) × (need slots (jobs + 1) ≤ length (now table)) ⌝ }
+    requires { ⌜ first ≤ slots + 3 ⌝ }
+    ensures { λ _. ⌜ Rows slots (jobs + 1) first (slots + 3) (λ s. along (now (table .entry)) (row slots jobs s)) (now (table .entry)) (now (table .exit)) ⌝ }
+{
+    let width = wide(slots) + 3;
+    let mut from = first;
+    while from < width {
+        let below = row_of(slots, jobs, from);
+        let here = row_of(slots, jobs + 1, from);
+        copy(&mut *table, below, here, from, width);
+        from += 1;
     }
 }
 

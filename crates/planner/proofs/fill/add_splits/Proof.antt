@@ -9,7 +9,7 @@ use Rattle.day.specs.Windows.{at}
 use Rattle.planner.specs.Jobs.{jobs}
 use borrow.Author.Needs.{needs}
 use Rattle.planner.proofs.Table.{row-below}
-use Rattle.planner.proofs.Level.{level-read}
+use Rattle.planner.proofs.Level.{level-read, fillable-long}
 use Rattle.planner.proofs.Jobs.{splits-unmarked, splits-not-marked, values-fit}
 use Rattle.planner.proofs.Sums.{Sums, sums-none, sums-skip, sums-lower, sums-value}
 use Rattle.planner.proofs.fill.add_splits.Statement.{statement}
@@ -49,7 +49,7 @@ wide-requires-3 c κs = search needs
 loop-holds : tie.Need-loop-holds Inv-loop μ-loop
 loop-holds c =
     let start = c .before .before .before .before .before .before .before .before .before .before in
-    let p = start .pre .0 in
+    let p = start .pre .0 .prepared in
     let a = start .args in (
       omega arith,
       omega (arith, p .window (a .job) (omega arith)),
@@ -57,7 +57,7 @@ loop-holds c =
       refl,
       rw (c .wide3 .ensures .0)
           (sums-none (jobs (a .day) (now (a .rel)) (now (a .dead))) (a .job) (a .day .slots) (a .from) (now (a .sums))
-          (start .pre .1 .1 .1)),
+          (start .pre .1 .1)),
     )
 
 mul-wide-3 : tie.Need-mul-wide-3 Inv-loop μ-loop
@@ -73,7 +73,12 @@ add-next : tie.Need-add-next Inv-loop μ-loop
 add-next c = omega arith
 
 value-at-requires : tie.Need-value-at-requires Inv-loop μ-loop
-value-at-requires c κs = (omega arith, omega arith, (omega arith, omega arith), omega arith)
+value-at-requires c κs = (
+  omega arith,
+  omega arith,
+  (omega arith, omega arith),
+  fillable-long (c .before .before .before .before .before .before .before .before .before .before .before .before .before .before .before .pre .0),
+)
 
 row-of-requires : tie.Need-row-of-requires Inv-loop μ-loop
 row-of-requires c κs = search needs
@@ -85,15 +90,16 @@ lower-requires c κs =
     let split = c .before .before .before .before .before .before .before .loop .split in
     let P = jobs (a .day) (now (a .rel)) (now (a .dead)) in
     let level =
-    c .before .before .before .before .before .before .before .before .before .before .before .before .before .before .before .before .before .before .pre .1 .0 .1 in
+    c .before .before .before .before .before .before .before .before .before .before .before .before .before .before .before .before .before .before .pre .0 .level in
     let fits = values-fit
-    (c .before .before .before .before .before .before .before .before .before .before .before .before .before .before .before .before .before .before .pre .0) (a .job) in
+    (c .before .before .before .before .before .before .before .before .before .before .before .before .before .before .before .before .before .before .pre .0 .prepared) (a .job) in
     let left = level (a .from) split (omega arith, omega arith) in (
       (
         omega arith,
         omega arith,
         omega (
           arith,
+          fillable-long (c .before .before .before .before .before .before .before .before .before .before .before .before .before .before .before .before .before .before .pre .0),
           row-below slots (a .job) (a .job) (split + 1) (c .before .row-of .result) (omega arith) (omega arith)
               (c .before .row-of .ensures),
         ),
@@ -121,9 +127,9 @@ loop-again c =
     let l = c .before .before .before .before .loop in
     let slots = a .day .slots in
     let P = jobs (a .day) (now (a .rel)) (now (a .dead)) in
-    let p = c .before .before .before .before .before .before .before .before .before .before .before .before .before .before .before .pre .0 in
+    let p = c .before .before .before .before .before .before .before .before .before .before .before .before .before .before .before .pre .0 .prepared in
     let level =
-    c .before .before .before .before .before .before .before .before .before .before .before .before .before .before .before .pre .1 .0 .1 in (
+    c .before .before .before .before .before .before .before .before .before .before .before .before .before .before .before .pre .0 .level in (
       omega arith,
       omega arith,
       l .inv .2,
@@ -136,7 +142,7 @@ loop-again c =
           (w .1 .ensures ∙ level (a .from) (l .split) (
             omega (
               arith,
-              c .before .before .before .before .before .before .before .before .before .before .before .before .before .before .before .pre .1 .1 .0,
+              c .before .before .before .before .before .before .before .before .before .before .before .before .before .before .before .pre .1 .0,
             ),
             omega arith,
           ))

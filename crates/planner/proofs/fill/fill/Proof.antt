@@ -35,19 +35,18 @@ fill-level-requires : tie.Need-fill-level-requires Inv-loop μ-loop
 fill-level-requires c κs =
     let start = c .before .before .before .before .before .before .before .before .before .before .before in
     let a = start .args in
-    let l = c .before .before .loop in (
-      prepared-fewer (start .pre .0) (l .job + 1) (omega arith),
-      (
-        omega (
-          arith,
-          l .inv .1 .long,
-          c .before .before .before .before .before .price-level .ensures .long,
-          need-more
-              (a .day .slots) (l .job + 1) (a .count) (omega arith),
-        ),
-        l .inv .1 .levels (l .job) (omega arith),
-      ),
-    )
+    let l = c .before .before .loop in
+    record {
+      prepared = prepared-fewer (start .pre .0) (l .job + 1) (omega arith);
+      room = omega (
+        arith,
+        l .inv .1 .long,
+        c .before .before .before .before .before .price-level .ensures .long,
+        need-more
+            (a .day .slots) (l .job + 1) (a .count) (omega arith),
+      );
+      level = l .inv .1 .levels (l .job) (omega arith);
+    }
 
 add-job : tie.Need-add-job Inv-loop μ-loop
 add-job c = omega arith

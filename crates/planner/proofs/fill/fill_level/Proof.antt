@@ -1,82 +1,64 @@
--- `planner::fill::fill_level` meets its contract: the rows below `from` are filled. Assumes nothing.
-use Prim.Native.Nat.{_+_, _-_, _≤_}
-use mathlib.Core.Path.{_≡_}
+-- `planner::fill::fill_level` meets its contract: the rows up to the release are sums, those after it copies. Assumes nothing.
+use Prim.Native.Nat.{_+_}
 use native.Mathlib.Omega.{arith}
 use denote.Ref.{now}
-use Rattle.rule.specs.Span.{value}
-use Rattle.planner.specs.Jobs.{jobs}
-use Rattle.planner.specs.Level.{Rows}
+use Rattle.day.specs.Windows.{at}
+use Rattle.planner.proofs.Level.{rows-join, fillable-rows, copied-values}
 use borrow.Author.Needs.{needs}
-use Rattle.planner.proofs.Level.{rows-none, rows-more, rows-keep}
 use Rattle.planner.proofs.fill.fill_level.Statement.{statement}
 use Rattle.planner.proofs.fill.fill_level.Tie as tie
 
-abbrev Inv-loop : tie.InvT-loop
-Inv-loop day rel dead lowest job table₀ width from₀ table from = (from ≤ width) × Rows (day .slots) (job + 1) from
-    (value (jobs day rel dead) (job + 1)) table₀ table
+sum-rows-requires : tie.Need-sum-rows-requires
+sum-rows-requires c κs = search needs
 
-abbrev μ-loop : tie.MeasureT-loop
-μ-loop day rel dead lowest job table₀ width from₀ table from = width - from
+mul-wide : tie.Need-mul-wide
+mul-wide c = search needs
 
-wide-requires : tie.Need-wide-requires Inv-loop μ-loop
+shared-slice-read-wide : tie.Need-shared-slice-read-wide
+shared-slice-read-wide c = search needs
+
+wide-requires : tie.Need-wide-requires
 wide-requires c κs = search needs
 
-add-width : tie.Need-add-width Inv-loop μ-loop
-add-width c = omega arith
+add-after : tie.Need-add-after
+add-after c = search needs
 
-loop-holds : tie.Need-loop-holds Inv-loop μ-loop
-loop-holds c = (omega arith, rows-none _ _ _ _)
-
-fill-row-requires : tie.Need-fill-row-requires Inv-loop μ-loop
-fill-row-requires c κs =
-    let start = c .before .before .before .before .before .before .before .before in
-    let a = start .args in
-    let P = jobs (a .day) (now (a .rel)) (now (a .dead)) in
-    let r = c .before .before .loop .inv .1 in (
-      start .pre .0,
+copy-level-requires : tie.Need-copy-level-requires
+copy-level-requires c κs =
+    let start = c .before .before .before .before .before .before .before .before .before .before .before in
+    let p = start .pre .prepared in
+    let k = start .args .job in (
       (
-        (
-          omega (arith, r .long),
-          rows-keep (a .day .slots) (a .job + 1) (value P (a .job + 1)) P (a .job) _ _ _
-              (λ q. omega arith) r (start .pre .1 .1),
-        ),
-        omega arith,
+        p .slots,
+        omega (arith, p .few),
+        omega (arith, start .pre .room, c .before .before .before .before .before .sum-rows .ensures .long),
       ),
+      omega (arith, p .window k (omega arith), p .in-day k (omega arith), c .before .wide .ensures .0),
     )
 
-add-from : tie.Need-add-from Inv-loop μ-loop
-add-from c = omega arith
+same-length : tie.Need-same-length
+same-length c = search needs
 
-loop-less : tie.Need-loop-less Inv-loop μ-loop
-loop-less c = omega arith
-
-loop-again : tie.Need-loop-again Inv-loop μ-loop
-loop-again c = (
-  omega arith,
-  rows-more _ _ _ _ _ _ _ (omega arith) (c .before .before .before .before .before .loop .inv .1)
-      (c .before .before .fill-row .ensures),
-)
-
-same-length : tie.Need-same-length Inv-loop μ-loop
-same-length c = c .before .loop .inv .1 .long
-
-returns : tie.Need-returns Inv-loop μ-loop
+returns : tie.Need-returns
 returns c =
-    let e : c .before .loop .from ≡ c .before .before .before .before .before .before .before .args .day .slots + 3 = omega arith in
-    rw e at (c .before .loop .inv .1)
+    let start = c .before .before .before .before .before .before .before .before .before .before .before .before .before .before in
+    let p = start .pre .prepared in
+    let a = start .args in
+    let sums = c .before .before .before .before .before .before .before .before .sum-rows .ensures in
+    rows-join _ _ _ 0 (at (now (a .rel)) (a .job) + 1) (a .day .slots + 3) _ _ _ (omega arith)
+    (omega (arith, p .window (a .job) (omega arith), p .in-day (a .job) (omega arith))) sums
+    (copied-values (fillable-rows (start .pre) _ _ _ _ sums) (at (now (a .rel)) (a .job) + 1) _ (omega arith)
+    (rw (c .before .before .before .before .wide .ensures .0) at (c .before .before .copy-level .ensures)))
 
 pub fill-level-spec : {M : Type 1} → statement M
 fill-level-spec =
     tie.close
     (tie.spec
-    Inv-loop
-    μ-loop
+    sum-rows-requires
+    mul-wide
+    shared-slice-read-wide
     wide-requires
-    add-width
-    loop-holds
-    fill-row-requires
-    add-from
-    loop-less
-    loop-again
+    add-after
+    copy-level-requires
     same-length
     returns)

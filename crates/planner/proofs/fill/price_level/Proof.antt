@@ -10,7 +10,7 @@ use Rattle.planner.proofs.fill.price_level.Statement.{statement}
 use Rattle.planner.proofs.fill.price_level.Tie as tie
 
 abbrev Inv-loop : tie.InvT-loop
-Inv-loop day table₀ width from₀ table from = (from ≤ width) × Rows (day .slots) 0 from (far-price day) table₀ table
+Inv-loop day table₀ width from₀ table from = (from ≤ width) × Rows (day .slots) 0 0 from (far-price day) table₀ table
 
 abbrev μ-loop : tie.MeasureT-loop
 μ-loop day table₀ width from₀ table from = width - from
@@ -22,7 +22,7 @@ add-width : tie.Need-add-width Inv-loop μ-loop
 add-width c = omega arith
 
 loop-holds : tie.Need-loop-holds Inv-loop μ-loop
-loop-holds c = (omega arith, rows-none _ _ _ _)
+loop-holds c = (omega arith, rows-none _ _ _ _ _)
 
 price-row-requires : tie.Need-price-row-requires Inv-loop μ-loop
 price-row-requires c κs = (omega arith, omega arith, omega (arith, c .before .before .loop .inv .1 .long))
@@ -36,7 +36,7 @@ loop-less c = omega arith
 loop-again : tie.Need-loop-again Inv-loop μ-loop
 loop-again c = (
   omega arith,
-  rows-more _ _ _ _ _ _ _ (omega arith) (c .before .before .before .before .before .loop .inv .1)
+  rows-more _ _ _ _ _ _ _ _ (omega arith) (omega arith) (c .before .before .before .before .before .loop .inv .1)
       (c .before .before .price-row .ensures),
 )
 

@@ -40,6 +40,12 @@ loop-holds c =
       written-none _ _ _ _,
     )
 
+cast-far-price : tie.Need-cast-far-price Inv-loop μ-loop
+cast-far-price c = omega arith
+
+cast-far-price-2 : tie.Need-cast-far-price-2 Inv-loop μ-loop
+cast-far-price-2 c = omega arith
+
 far-price-requires : tie.Need-far-price-requires Inv-loop μ-loop
 far-price-requires c κs = search needs
 
@@ -86,6 +92,8 @@ price-row-spec =
     wide-requires
     add-width
     loop-holds
+    cast-far-price
+    cast-far-price-2
     far-price-requires
     add-table
     mul-table
