@@ -10,9 +10,9 @@ use Rattle.day.specs.Far.{far-price}
 use Rattle.day.specs.Check.{most-slots, most-wake, most-jobs}
 use Rattle.rule.specs.Span.{Problem}
 
--- stands for "none": more than a plan can cost, and the sum of two still has 16 bits
+-- stands for "none": more than a plan can cost, and the sum of two still has 15 bits
 abbrev pub none : ℕ
-none = 30000
+none = 16000
 
 -- the rule's problem that they make
 abbrev pub jobs : Day → List ℕ → List ℕ → Problem

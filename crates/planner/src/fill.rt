@@ -14,19 +14,21 @@ use crate::rows;
 use day::Day;
 use day::wide;
 
-// Stands for "none": more than a plan can cost, and the sum of two still has 16 bits.
-pub(crate) const NONE: u16 = 30000;
+// Stands for "none": more than a plan can cost, and the sum of two still has 15 bits.
+pub(crate) const NONE: u16 = 16000;
 
+// The lesser of two numbers of 15 bits. They are compared as signed numbers, since of those a processor finds many lessers at once.
 fn lesser(a: u16, b: u16) -> u16
+    requires { ⌜ (a < 32768) × (b < 32768) ⌝ }
     ensures { λ r. ⌜ r ≡ min a b ⌝ }
 {
-    if a < b { a } else { b }
+    if (a as i16) < (b as i16) { a } else { b }
 }
 
 // Lowers each sum from `lo` to `hi` to the base plus what a row of the table holds there, where that is less.
 fn lower(sums: &mut [u16], table: &[u16], row: usize, lo: usize, hi: usize, base: u16)
     requires { ⌜ (lo ≤ hi) × (hi ≤ length (now sums)) × (row + hi ≤ length (now table)) ⌝ }
-    requires { ⌜ ((e : ℕ) → lo ≤ e → e < hi → base + at (now table) (row + e) < 65536) ⌝ }
+    requires { ⌜ ((e : ℕ) → lo ≤ e → e < hi → (base + at (now table) (row + e) < 32768) × (at (now sums) e < 32768)) ⌝ }
     ensures { λ _. ⌜ Written itself lo hi (lowered (now (sums .entry)) (now (table .entry)) row base) (now (sums .entry)) (now (sums .exit)) ⌝ }
 {
     let mut e = lo;

@@ -9,9 +9,8 @@ use Rattle.day.specs.Windows.{at}
 use Rattle.planner.specs.Jobs.{jobs}
 use borrow.Author.Needs.{needs}
 use Rattle.planner.proofs.Table.{row-below}
-use Rattle.planner.proofs.Level.{level-read, fillable-long}
-use Rattle.planner.proofs.Jobs.{splits-unmarked, splits-not-marked, values-fit}
-use Rattle.planner.proofs.Sums.{Sums, sums-none, sums-skip, sums-lower, sums-value}
+use Rattle.planner.proofs.Level.{fillable-long}
+use Rattle.planner.proofs.Sums.{Sums, sums-none, marked-skipped, split-fits, split-lowers, sums-value}
 use Rattle.planner.proofs.fill.add_splits.Statement.{statement}
 use Rattle.planner.proofs.fill.add_splits.Tie as tie
 
@@ -85,34 +84,22 @@ row-of-requires c κs = search needs
 
 lower-requires : tie.Need-lower-requires Inv-loop μ-loop
 lower-requires c κs =
-    let a = c .before .before .before .before .before .before .before .before .before .before .before .before .before .before .before .before .before .before .args in
-    let slots = a .day .slots in
-    let split = c .before .before .before .before .before .before .before .loop .split in
-    let P = jobs (a .day) (now (a .rel)) (now (a .dead)) in
-    let level =
-    c .before .before .before .before .before .before .before .before .before .before .before .before .before .before .before .before .before .before .pre .0 .level in
-    let fits = values-fit
-    (c .before .before .before .before .before .before .before .before .before .before .before .before .before .before .before .before .before .before .pre .0 .prepared) (a .job) in
-    let left = level (a .from) split (omega arith, omega arith) in (
+    let at-loop = c .before .before .before .before .before .before .before in
+    let start = at-loop .before .before .before .before .before .before .before .before .before .before .before in
+    let a = start .args in
+    let l = at-loop .loop in (
       (
         omega arith,
         omega arith,
         omega (
           arith,
-          fillable-long (c .before .before .before .before .before .before .before .before .before .before .before .before .before .before .before .before .before .before .pre .0),
-          row-below slots (a .job) (a .job) (split + 1) (c .before .row-of .result) (omega arith) (omega arith)
+          fillable-long (start .pre .0),
+          row-below (a .day .slots) (a .job) (a .job) (l .split + 1) (c .before .row-of .result) (omega arith) (omega arith)
               (c .before .row-of .ensures),
         ),
       ),
-      λ e h l.
-          omega (
-            arith,
-            left,
-            fits (a .from) split,
-            level-read P slots (a .job) (split + 1) e (c .before .row-of .result) (now (a .table)) level
-                (c .before .row-of .ensures) (h, omega arith),
-            fits (split + 1) e,
-          ),
+      λ e h u. split-fits (start .pre .0) (a .from) (l .split) (l .sums) (omega arith) (l .inv .4) _ _ (omega arith)
+          (c .before .before .value-at .ensures) (c .before .row-of .ensures) e h (omega arith),
     )
 
 add-split : tie.Need-add-split Inv-loop μ-loop
@@ -123,13 +110,10 @@ loop-less c = omega arith
 
 loop-again : tie.Need-loop-again Inv-loop μ-loop
 loop-again c =
-    let a = c .before .before .before .before .before .before .before .before .before .before .before .before .before .before .before .args in
-    let l = c .before .before .before .before .loop in
-    let slots = a .day .slots in
-    let P = jobs (a .day) (now (a .rel)) (now (a .dead)) in
-    let p = c .before .before .before .before .before .before .before .before .before .before .before .before .before .before .before .pre .0 .prepared in
-    let level =
-    c .before .before .before .before .before .before .before .before .before .before .before .before .before .before .before .pre .0 .level in (
+    let at-loop = c .before .before .before .before in
+    let start = at-loop .before .before .before .before .before .before .before .before .before .before .before in
+    let a = start .args in
+    let l = at-loop .loop in (
       omega arith,
       omega arith,
       l .inv .2,
@@ -137,25 +121,12 @@ loop-again c =
       ⊎-elim
           (λ w.
           rw (w .7)
-          (sums-lower P (a .job) slots (a .from) (l .split) (w .2 .result) (w .1 .result) (now (a .table)) (l .sums) _
-          (splits-unmarked p (a .job) (l .split) (omega arith) (omega arith) (omega arith) (omega arith))
-          (w .1 .ensures ∙ level (a .from) (l .split) (
-            omega (
-              arith,
-              c .before .before .before .before .before .before .before .before .before .before .before .before .before .before .before .pre .1 .0,
-            ),
-            omega arith,
-          ))
-          (λ e h u. level-read P slots (a .job) (l .split + 1) e (w .2 .result) (now (a .table)) level (w .2 .ensures)
-          (omega arith, u))
-          (l .inv .4)
-          (rw (c .before .before .before .before .before .before .before .before .before .wide .ensures .0) at
-          (w .4 .ensures))))
+          (split-lowers (start .pre .0) (a .from) (l .split) (l .sums) (omega arith) (l .inv .4) (w .1 .result) (w .2 .result)
+          (omega arith) (w .1 .ensures) (w .2 .ensures) _ (omega arith) (omega arith)
+          (rw (at-loop .before .before .before .before .before .wide .ensures .0) at (w .4 .ensures))))
           (λ w.
           rw (w .1)
-          (sums-skip P (a .job) slots (a .from) (l .split) (l .sums)
-          (splits-not-marked p (a .job) (l .split) (omega arith) (omega arith) (omega arith))
-          (l .inv .4)))
+          (marked-skipped (start .pre .0) (a .from) (l .split) (l .sums) (omega arith) (l .inv .4) (omega arith)))
           (c .if1 .came),
     )
 

@@ -37,7 +37,11 @@ slice-read-lesser : tie.Need-slice-read-lesser Inv-loop μ-loop
 slice-read-lesser c = omega arith
 
 lesser-requires : tie.Need-lesser-requires Inv-loop μ-loop
-lesser-requires c κs = search needs
+lesser-requires c κs =
+    let start = c .before .before .before .before .before .before in
+    let l = c .before .before .before .loop in
+    let fits = start .pre .1 (l .e) (omega arith) (omega arith) in
+    (fits .0, omega (arith, fits .1, l .inv .2 .outside (l .e) (λ x h u q. omega arith)))
 
 mul-sums : tie.Need-mul-sums Inv-loop μ-loop
 mul-sums c = omega arith
