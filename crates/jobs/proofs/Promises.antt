@@ -109,7 +109,7 @@ module _ (jobs : List Job) where
       let checks : Alike (PlanCheck day (windows xs ys) starts table) (PlanCheck day (windows xs′ ys′) starts table) = alike-first alike in
       let refused : ListCheck day (windows xs ys) a = alike-stops alike a (alike-stops checks a (p .answer)) in
       let not-done : a .code ≡ done → ⊥ = list-is-check .not-done a refused in
-      let not-no-plan : a .code ≡ no-plan → ⊥ = list-not-no-plan day (windows xs ys) a (stops refused) in
+      let not-no-plan : a .code ≡ no-plan → ⊥ = list-not-no-plan day (windows xs ys) a refused in
       record {
         answer = alike-first checks .same a (p .answer);
         planned = λ e. absurd (not-done e);

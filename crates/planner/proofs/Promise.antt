@@ -1,19 +1,20 @@
 -- The laws of the promise: what a refusal and a plan without checks give, and that two outcomes are equal. Assumes nothing.
-use Prim.Native.Nat.{ℕ}
+use Prim.Native.Nat.{ℕ, _≤_}
 use mathlib.Core.Path.{_≡_, refl, sym, ap, _∙_}
 use mathlib.Core.List.{List}
 use mathlib.Core.Logic.{_⊎_, inl, inr, ⊎-elim}
 use native.Mathlib.Omega.{arith}
+use lib.ListN.{length}
 use lib.Seq.{ext-getD}
 use Rattle.day.specs.declared.Answer.{Answer}
 use Rattle.day.specs.declared.Day.{Day}
 use Rattle.day.specs.Windows.{Windows, at}
 use Rattle.day.specs.Answer.{says, done, no-plan}
 use Rattle.day.specs.Refusal.{_then_, stops, goes-on, Passed}
-use Rattle.day.specs.Check.{ListCheck}
+use Rattle.day.specs.Check.{ListCheck, Accepted}
 use Rattle.day.proofs.Cases.{on-eq, on-le}
-use Rattle.day.proofs.Refusal.{IsCheck, then-unique, then-next, then-is-check, refuses-is-check}
-use Rattle.day.proofs.Check.{list-is-check}
+use Rattle.day.proofs.Refusal.{IsCheck, no-fault, then-unique, then-next, then-is-check, clear-first, clear-next, refuses-is-check}
+use Rattle.day.proofs.Check.{list-is-check, clear-accepted}
 use Rattle.day.proofs.Best.{best-costs, best-unique}
 use Rattle.planner.specs.Table.{need}
 use Rattle.planner.specs.Promise.{Verdict, costs, none-proper, BestIn, Planned, Never, PlanCheck, PlanPromise}
@@ -74,13 +75,31 @@ module _ (Check : Answer → Type 0) (need : ℕ) (day : Day) (w : Windows) (sta
     kept = A .kept;
   }
 
--- the checks of a list never answer that there is no plan
-pub list-not-no-plan : (day : Day) (w : Windows) (a : Answer) → (ListCheck day w then Passed) a → a .code ≡ no-plan → ⊥
-list-not-no-plan day w a (stops (stops p)) e = omega (arith, ap code-of (p .says))
-list-not-no-plan day w a (stops (goes-on m (stops p))) e = omega (arith, ap code-of (p .says))
-list-not-no-plan day w a (stops (goes-on m (goes-on n (stops p)))) e = omega (arith, ap code-of (p .says))
-list-not-no-plan day w a (stops (goes-on m (goes-on n (goes-on o p)))) e = omega (arith, ap code-of (p .says))
-list-not-no-plan day w a (goes-on m p) e = omega (arith, ap code-of p)
+-- the checks never answer that there is no plan
+pub list-not-no-plan : (day : Day) (w : Windows) (a : Answer) → ListCheck day w a → a .code ≡ no-plan → ⊥
+list-not-no-plan day w a (stops p) e = omega (arith, ap code-of (p .says))
+list-not-no-plan day w a (goes-on m (stops p)) e = omega (arith, ap code-of (p .says))
+list-not-no-plan day w a (goes-on m (goes-on n (stops p))) e = omega (arith, ap code-of (p .says))
+list-not-no-plan day w a (goes-on m (goes-on n (goes-on o p))) e = omega (arith, ap code-of (p .says))
+
+pub check-not-no-plan : (day : Day) (w : Windows) (starts table : List ℕ) (a : Answer) → (PlanCheck day w starts table then Passed) a
+    → a .code ≡ no-plan → ⊥
+check-not-no-plan day w starts table a (stops (stops p)) e = list-not-no-plan day w a p e
+check-not-no-plan day w starts table a (stops (goes-on m (stops p))) e = omega (arith, ap code-of (p .says))
+check-not-no-plan day w starts table a (stops (goes-on m (goes-on n p))) e = omega (arith, ap code-of (p .says))
+check-not-no-plan day w starts table a (goes-on m p) e = omega (arith, ap code-of p)
+
+-- what the checks have nothing to refuse of
+module _ (day : Day) (w : Windows) (starts table : List ℕ) (clear : (b : Answer) → PlanCheck day w starts table b → ⊥) where
+  pub list-accepted : Accepted day w
+  list-accepted = clear-accepted (clear-first clear)
+
+  pub enough-starts : w .count ≤ length starts
+  enough-starts = on-le (w .count) (length starts) (λ h. h) (λ h. absurd (no-fault (clear-first (clear-next clear)) h))
+
+  pub enough-table : need (day .slots) (w .count) ≤ length table
+  enough-table =
+      on-le (need (day .slots) (w .count)) (length table) (λ h. h) (λ h. absurd (no-fault (clear-next (clear-next clear)) h))
 
 -- codes 1 to 6 are checks, so that two outcomes of the planner are equal
 pub plan-is-check : (day : Day) (w : Windows) (starts table : List ℕ) → IsCheck (PlanCheck day w starts table)

@@ -9,11 +9,12 @@ ghost use Prim.Native.Nat.{ℕ, _+_, _<_, _≤_};
 ghost use lib.ListN.{length};
 ghost use Rattle.day.specs.Windows.{at, windows};
 ghost use Rattle.day.specs.Check.{most-wake, Accepted};
+ghost use Rattle.day.specs.Refusal.{_then_, Passed};
 ghost use Rattle.rule.specs.Whole.{without-ends};
 ghost use Rattle.planner.specs.Table.{need};
 ghost use Rattle.planner.specs.Jobs.{Prepared};
 ghost use Rattle.planner.specs.Finished.{Finished};
-ghost use Rattle.planner.specs.Promise.{Never, Planned, PlanPromise};
+ghost use Rattle.planner.specs.Promise.{Never, Planned, PlanCheck, PlanPromise};
 use day::Answer;
 use day::Day;
 use day::code;
@@ -105,17 +106,15 @@ fn solve(
     finish(day, &rel, &dead, &lowest, &*order, starts, table)
 }
 
-// Plans one-slot jobs, given as separate lists of releases and deadlines, at least cost. On code 0 the first number is the cost and the
-// starts are the best plan's, in row order; on 7 there is no proper plan. The needed places of the table are zero then. Under any
-// other code nothing changes.
-pub fn plan(
+// Codes 1 to 6.
+fn check_plan(
     day: Day,
     releases: &[u16],
     deadlines: &[u16],
-    starts: &mut [u16],
-    table: &mut [u16],
+    starts: &[u16],
+    table: &[u16],
 ) -> Answer
-    ensures { λ a. ⌜ PlanPromise day (windows (now (releases .entry)) (now (deadlines .entry))) (now (starts .entry)) (now (table .entry)) a (now (starts .exit)) (now (table .exit)) ⌝ }
+    ensures { λ a. ⌜ (PlanCheck day (windows (now (releases .entry)) (now (deadlines .entry))) (now (starts .entry)) (now (table .entry)) then Passed) a ⌝ }
 {
     let checked = day::check_list(day, releases, deadlines);
     if checked.code != code::DONE {
@@ -129,6 +128,26 @@ pub fn plan(
     if table.len() < needed {
         return Answer::of(code::SHORT_TABLE);
     }
+    Answer::of(code::DONE)
+}
+
+// Plans one-slot jobs, given as separate lists of releases and deadlines, at least cost. On code 0 the first number is the cost and the
+// starts are the best plan's, in row order; on 7 there is no proper plan. The needed places of the table are zero then. Under any
+// other code nothing changes.
+pub fn plan(
+    day: Day,
+    releases: &[u16],
+    deadlines: &[u16],
+    starts: &mut [u16],
+    table: &mut [u16],
+) -> Answer
+    ensures { λ a. ⌜ PlanPromise day (windows (now (releases .entry)) (now (deadlines .entry))) (now (starts .entry)) (now (table .entry)) a (now (starts .exit)) (now (table .exit)) ⌝ }
+{
+    let checked = check_plan(day, releases, deadlines, &*starts, &*table);
+    if checked.code != code::DONE {
+        return checked;
+    }
     let mut order = [0usize; 40];
-    solve(day, releases, deadlines, &mut order[..count], starts, table)
+    let order = &mut order[..releases.len()];
+    solve(day, releases, deadlines, order, starts, table)
 }
