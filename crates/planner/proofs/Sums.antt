@@ -17,7 +17,6 @@ use Rattle.planner.specs.Written.{Written, itself, lowered}
 use Rattle.planner.specs.Jobs.{none, jobs}
 use Rattle.planner.specs.Level.{Fillable}
 use Rattle.planner.proofs.Jobs.{values-fit, splits-unmarked, splits-not-marked}
-use Rattle.planner.proofs.Level.{level-read}
 
 -- at each e of a row from s, the least sum over the splits of job k before t
 abbrev pub Sums : Problem → ℕ → ℕ → ℕ → ℕ → List ℕ → Type 0
@@ -89,19 +88,19 @@ module _ {day : Day} {rel dead lowest table : List ℕ} {k : ℕ} (f : Fillable 
   marked-skipped m =
       sums-skip P k (day .slots) s t sums (splits-not-marked (f .prepared) k t (omega arith) within m) w
 
-  module _ (base right : ℕ) (from : s ≤ t) (left : base ≡ at table (place (day .slots) k s t))
-      (begins : right ≡ row (day .slots) k (t + 1)) where
+  module _ (from : s ≤ t) where
     in-day : t ≤ day .slots
     in-day = omega (arith, f .prepared .in-day k (omega arith))
 
-    left-value : base ≡ value P k s t
-    left-value = left ∙ f .level s t (from, omega (arith, in-day))
+    left-value : at table (place (day .slots) k s t) ≡ value P k s t
+    left-value = f .level s t (from, omega (arith, in-day))
 
-    right-value : (e : ℕ) → t < e → e ≤ day .slots + 2 → at table (right + e) ≡ value P k (t + 1) e
-    right-value e h l = level-read P (day .slots) k (t + 1) e right table (f .level) begins (omega arith, l)
+    right-value : (e : ℕ) → t < e → e ≤ day .slots + 2 → at table (place (day .slots) k (t + 1) e) ≡ value P k (t + 1) e
+    right-value e h l = f .level (t + 1) e (omega arith, l)
 
     -- numbers of 15 bits are added and compared
-    pub split-fits : (e : ℕ) → t + 1 ≤ e → e < day .slots + 3 → (base + at table (right + e) < 32768) × (at sums e < 32768)
+    pub split-fits : (e : ℕ) → t + 1 ≤ e → e < day .slots + 3
+        → (at table (place (day .slots) k s t) + at table (place (day .slots) k (t + 1) e) < 32768) × (at sums e < 32768)
     split-fits e h l = (
       omega (
         arith,
@@ -114,7 +113,9 @@ module _ {day : Day} {rel dead lowest table : List ℕ} {k : ℕ} (f : Fillable 
     )
 
     pub split-lowers : (new : List ℕ) → at rel k ≤ t → k ≤ at lowest t
-        → Written itself (t + 1) (day .slots + 3) (lowered sums table right base) sums new → Sums P (day .slots) k s (t + 1) new
+        → Written itself (t + 1) (day .slots + 3)
+        (lowered sums table (row (day .slots) k (t + 1)) (at table (place (day .slots) k s t))) sums new
+        → Sums P (day .slots) k s (t + 1) new
     split-lowers new h m v =
-        sums-lower P k (day .slots) s t right base table sums new (splits-unmarked (f .prepared) k t (omega arith) h within m) left-value
-        right-value w v
+        sums-lower P k (day .slots) s t (row (day .slots) k (t + 1)) (at table (place (day .slots) k s t)) table sums new
+        (splits-unmarked (f .prepared) k t (omega arith) h within m) left-value right-value w v

@@ -6,7 +6,7 @@ ghost use Rattle.day.specs.Windows.{at};
 ghost use Rattle.day.specs.Far.{far-price};
 ghost use Rattle.day.specs.Check.{most-slots};
 ghost use Rattle.rule.specs.Span.{value};
-ghost use Rattle.planner.specs.Table.{place, need};
+ghost use Rattle.planner.specs.Table.{row, place, need};
 ghost use Rattle.planner.specs.Written.{Written, itself, lowered};
 ghost use Rattle.planner.specs.Jobs.{none, jobs, Prepared};
 ghost use Rattle.planner.specs.Level.{Rows, Fillable, Filled};
@@ -38,6 +38,18 @@ fn lower(sums: &mut [u16], table: &[u16], row: usize, lo: usize, hi: usize, base
     }
 }
 
+// Lowers the sums after `split` to those of the two sides of a split there, where these are less.
+fn add_split(slots: u16, job: usize, from: usize, split: usize, table: &[u16], sums: &mut [u16])
+    requires { ⌜ (job < 65536) × (from ≤ split) × (split ≤ slots) × (slots ≤ most-slots) × (need slots job ≤ length (now table)) × (slots + 3 ≤ length (now sums)) ⌝ }
+    requires { ⌜ ((e : ℕ) → split + 1 ≤ e → e < slots + 3 → (at (now table) (place slots job from split) + at (now table) (place slots job (split + 1) e) < 32768) × (at (now sums) e < 32768)) ⌝ }
+    ensures { λ _. ⌜ Written itself (split + 1) (slots + 3) (lowered (now (sums .entry)) (now (table .entry)) (row slots job (split + 1)) (at (now (table .entry)) (place slots job from split))) (now (sums .entry)) (now (sums .exit)) ⌝ }
+{
+    let next = split + 1;
+    let left = rows::value_at(table, slots, job, from, split);
+    let right = rows::row_of(slots, job, next);
+    lower(sums, table, right, next, wide(slots) + 3, left);
+}
+
 // Lowers a row of sums, at first all "none", by each place at which `job` may split a span that begins at `from`.
 fn add_splits(
     day: Day,
@@ -54,15 +66,11 @@ fn add_splits(
     requires { ⌜ ((e : ℕ) → e ≤ day .slots + 2 → at (now sums) e ≡ none) ⌝ }
     ensures { λ _. ⌜ (length (now (sums .exit)) ≡ length (now (sums .entry))) × ((e : ℕ) → at (now (rel .entry)) job < e → e ≤ day .slots + 2 → at (now (sums .exit)) e ≡ value (jobs day (now (rel .entry)) (now (dead .entry))) (job + 1) from e) ⌝ }
 {
-    let width = wide(day.slots) + 3;
     let deadline = wide(dead[job]);
     let mut split = wide(rel[job]);
     while split < deadline {
         if job <= wide(lowest[split]) {
-            let next = split + 1;
-            let left = rows::value_at(table, day.slots, job, from, split);
-            let right = rows::row_of(day.slots, job, next);
-            lower(&mut *sums, table, right, next, width, left);
+            add_split(day.slots, job, from, split, table, &mut *sums);
         }
         split += 1;
     }

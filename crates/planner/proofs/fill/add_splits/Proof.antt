@@ -8,24 +8,17 @@ use denote.Ref.{now}
 use Rattle.day.specs.Windows.{at}
 use Rattle.planner.specs.Jobs.{jobs}
 use borrow.Author.Needs.{needs}
-use Rattle.planner.proofs.Table.{row-below}
 use Rattle.planner.proofs.Level.{fillable-long}
 use Rattle.planner.proofs.Sums.{Sums, sums-none, marked-skipped, split-fits, split-lowers, sums-value}
 use Rattle.planner.proofs.fill.add_splits.Statement.{statement}
 use Rattle.planner.proofs.fill.add_splits.Tie as tie
 
 abbrev Inv-loop : tie.InvT-loop
-Inv-loop day rel dead lowest job from table sums₀ width deadline split₀ sums split = (at rel job ≤ split) × (split ≤ deadline) ×
+Inv-loop day rel dead lowest job from table sums₀ deadline split₀ sums split = (at rel job ≤ split) × (split ≤ deadline) ×
     (deadline ≤ day .slots + 1) × (length sums ≡ length sums₀) × Sums (jobs day rel dead) (day .slots) job from split sums
 
 abbrev μ-loop : tie.MeasureT-loop
-μ-loop day rel dead lowest job from table sums₀ width deadline split₀ sums split = deadline - split
-
-wide-requires : tie.Need-wide-requires Inv-loop μ-loop
-wide-requires c κs = search needs
-
-add-width : tie.Need-add-width Inv-loop μ-loop
-add-width c = omega arith
+μ-loop day rel dead lowest job from table sums₀ deadline split₀ sums split = deadline - split
 
 mul-wide : tie.Need-mul-wide Inv-loop μ-loop
 mul-wide c = omega arith
@@ -33,8 +26,8 @@ mul-wide c = omega arith
 shared-slice-read-wide : tie.Need-shared-slice-read-wide Inv-loop μ-loop
 shared-slice-read-wide c = omega arith
 
-wide-requires-2 : tie.Need-wide-requires-2 Inv-loop μ-loop
-wide-requires-2 c κs = search needs
+wide-requires : tie.Need-wide-requires Inv-loop μ-loop
+wide-requires c κs = search needs
 
 mul-wide-2 : tie.Need-mul-wide-2 Inv-loop μ-loop
 mul-wide-2 c = omega arith
@@ -42,19 +35,19 @@ mul-wide-2 c = omega arith
 shared-slice-read-wide-2 : tie.Need-shared-slice-read-wide-2 Inv-loop μ-loop
 shared-slice-read-wide-2 c = omega arith
 
-wide-requires-3 : tie.Need-wide-requires-3 Inv-loop μ-loop
-wide-requires-3 c κs = search needs
+wide-requires-2 : tie.Need-wide-requires-2 Inv-loop μ-loop
+wide-requires-2 c κs = search needs
 
 loop-holds : tie.Need-loop-holds Inv-loop μ-loop
 loop-holds c =
-    let start = c .before .before .before .before .before .before .before .before .before .before in
+    let start = c .before .before .before .before .before .before .before .before .before in
     let p = start .pre .0 .prepared in
     let a = start .args in (
       omega arith,
       omega (arith, p .window (a .job) (omega arith)),
       omega (arith, p .in-day (a .job) (omega arith)),
       refl,
-      rw (c .wide3 .ensures .0)
+      rw (c .wide2 .ensures .0)
           (sums-none (jobs (a .day) (now (a .rel)) (now (a .dead))) (a .job) (a .day .slots) (a .from) (now (a .sums))
           (start .pre .1 .1)),
     )
@@ -65,41 +58,16 @@ mul-wide-3 c = omega arith
 shared-slice-read-wide-3 : tie.Need-shared-slice-read-wide-3 Inv-loop μ-loop
 shared-slice-read-wide-3 c = omega arith
 
-wide-requires-4 : tie.Need-wide-requires-4 Inv-loop μ-loop
-wide-requires-4 c κs = search needs
+wide-requires-3 : tie.Need-wide-requires-3 Inv-loop μ-loop
+wide-requires-3 c κs = search needs
 
-add-next : tie.Need-add-next Inv-loop μ-loop
-add-next c = omega arith
-
-value-at-requires : tie.Need-value-at-requires Inv-loop μ-loop
-value-at-requires c κs = (
-  omega arith,
-  omega arith,
-  (omega arith, omega arith),
-  fillable-long (c .before .before .before .before .before .before .before .before .before .before .before .before .before .before .before .pre .0),
-)
-
-row-of-requires : tie.Need-row-of-requires Inv-loop μ-loop
-row-of-requires c κs = search needs
-
-lower-requires : tie.Need-lower-requires Inv-loop μ-loop
-lower-requires c κs =
-    let at-loop = c .before .before .before .before .before .before .before in
-    let start = at-loop .before .before .before .before .before .before .before .before .before .before .before in
-    let a = start .args in
+add-split-requires : tie.Need-add-split-requires Inv-loop μ-loop
+add-split-requires c κs =
+    let at-loop = c .before .before .before .before .before in
+    let start = at-loop .before .before .before .before .before .before .before .before .before .before in
     let l = at-loop .loop in (
-      (
-        omega arith,
-        omega arith,
-        omega (
-          arith,
-          fillable-long (start .pre .0),
-          row-below (a .day .slots) (a .job) (a .job) (l .split + 1) (c .before .row-of .result) (omega arith) (omega arith)
-              (c .before .row-of .ensures),
-        ),
-      ),
-      λ e h u. split-fits (start .pre .0) (a .from) (l .split) (l .sums) (omega arith) (l .inv .4) _ _ (omega arith)
-          (c .before .before .value-at .ensures) (c .before .row-of .ensures) e h (omega arith),
+      (omega arith, omega arith, omega arith, omega arith, fillable-long (start .pre .0), omega arith),
+      split-fits (start .pre .0) (start .args .from) (l .split) (l .sums) (omega arith) (l .inv .4) (omega arith),
     )
 
 add-split : tie.Need-add-split Inv-loop μ-loop
@@ -111,22 +79,20 @@ loop-less c = omega arith
 loop-again : tie.Need-loop-again Inv-loop μ-loop
 loop-again c =
     let at-loop = c .before .before .before .before in
-    let start = at-loop .before .before .before .before .before .before .before .before .before .before .before in
-    let a = start .args in
+    let start = at-loop .before .before .before .before .before .before .before .before .before .before in
     let l = at-loop .loop in (
       omega arith,
       omega arith,
       l .inv .2,
-      ⊎-elim (λ w. ap length (w .7) ∙ w .4 .ensures .long ∙ l .inv .3) (λ w. ap length (w .1) ∙ l .inv .3) (c .if1 .came),
+      ⊎-elim (λ w. ap length (w .5) ∙ w .2 .ensures .long ∙ l .inv .3) (λ w. ap length (w .1) ∙ l .inv .3) (c .if1 .came),
       ⊎-elim
           (λ w.
-          rw (w .7)
-          (split-lowers (start .pre .0) (a .from) (l .split) (l .sums) (omega arith) (l .inv .4) (w .1 .result) (w .2 .result)
-          (omega arith) (w .1 .ensures) (w .2 .ensures) _ (omega arith) (omega arith)
-          (rw (at-loop .before .before .before .before .before .wide .ensures .0) at (w .4 .ensures))))
+          rw (w .5)
+          (split-lowers (start .pre .0) (start .args .from) (l .split) (l .sums) (omega arith) (l .inv .4) (omega arith) _
+          (omega arith) (omega arith) (w .2 .ensures)))
           (λ w.
           rw (w .1)
-          (marked-skipped (start .pre .0) (a .from) (l .split) (l .sums) (omega arith) (l .inv .4) (omega arith)))
+          (marked-skipped (start .pre .0) (start .args .from) (l .split) (l .sums) (omega arith) (l .inv .4) (omega arith)))
           (c .if1 .came),
     )
 
@@ -135,7 +101,7 @@ same-length c = c .before .loop .inv .3
 
 returns : tie.Need-returns Inv-loop μ-loop
 returns c =
-    let a = c .before .before .before .before .before .before .before .before .before .before .before .before .args in
+    let a = c .before .before .before .before .before .before .before .before .before .before .before .args in
     let e : c .before .loop .split ≡ at (now (a .dead)) (a .job) = omega arith in (
       c .before .loop .inv .3,
       λ x h l. sums-value (jobs (a .day) (now (a .rel)) (now (a .dead))) (a .job) (a .day .slots) (a .from) x
@@ -148,22 +114,17 @@ add-splits-spec =
     (tie.spec
     Inv-loop
     μ-loop
-    wide-requires
-    add-width
     mul-wide
     shared-slice-read-wide
-    wide-requires-2
+    wide-requires
     mul-wide-2
     shared-slice-read-wide-2
-    wide-requires-3
+    wide-requires-2
     loop-holds
     mul-wide-3
     shared-slice-read-wide-3
-    wide-requires-4
-    add-next
-    value-at-requires
-    row-of-requires
-    lower-requires
+    wide-requires-3
+    add-split-requires
     add-split
     loop-less
     loop-again
