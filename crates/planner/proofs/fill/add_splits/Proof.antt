@@ -1,5 +1,5 @@
 -- `planner::fill::add_splits` meets its contract: the sums are the least over the splits passed. Assumes nothing.
-use Prim.Native.Nat.{_+_, _-_, _≤_}
+use Prim.Native.Nat.{ℕ, _+_, _-_, _≤_, _<_}
 use mathlib.Core.Path.{_≡_, refl, ap, _∙_}
 use mathlib.Core.Logic.{⊎-elim}
 use native.Mathlib.Omega.{arith}
@@ -61,13 +61,33 @@ shared-slice-read-wide-3 c = omega arith
 wide-requires-3 : tie.Need-wide-requires-3 Inv-loop μ-loop
 wide-requires-3 c κs = search needs
 
+-- within the loop, each fact by itself, which keeps the check small
+module _ (c : tie.After-wide3 Inv-loop μ-loop) where
+  abbrev start : tie.Start Inv-loop μ-loop
+  start = c .before .before .before .before .before .before .before .before .before .before .before .before .before
+
+  abbrev split : ℕ
+  split = c .before .before .before .loop .split
+
+  within : split < at (now (start .args .dead)) (start .args .job)
+  within = omega arith
+
+  begun : start .args .from ≤ split
+  begun = omega arith
+
+  in-day : split ≤ start .args .day .slots
+  in-day = omega arith
+
+  room : start .args .day .slots + 3 ≤ length (c .before .before .before .loop .sums)
+  room = omega arith
+
 add-split-requires : tie.Need-add-split-requires Inv-loop μ-loop
 add-split-requires c κs =
-    let at-loop = c .before .before .before .before .before in
-    let start = at-loop .before .before .before .before .before .before .before .before .before .before in
-    let l = at-loop .loop in (
-      (omega arith, omega arith, omega arith, omega arith, fillable-long (start .pre .0), omega arith),
-      split-fits (start .pre .0) (start .args .from) (l .split) (l .sums) (omega arith) (l .inv .4) (omega arith),
+    let e = c .before .before in
+    let f = start e .pre .0 in (
+      (omega (arith, f .prepared .few), begun e, in-day e, f .prepared .slots, fillable-long f, room e),
+      split-fits f (start e .args .from) (split e) (e .before .before .before .loop .sums) (within e)
+          (e .before .before .before .loop .inv .4) (begun e),
     )
 
 add-split : tie.Need-add-split Inv-loop μ-loop
@@ -76,11 +96,13 @@ add-split c = omega arith
 loop-less : tie.Need-loop-less Inv-loop μ-loop
 loop-less c = omega arith
 
+released : (c : tie.After-wide3 Inv-loop μ-loop) → at (now (start c .args .rel)) (start c .args .job) ≤ split c
+released c = c .before .before .before .loop .inv .0
+
 loop-again : tie.Need-loop-again Inv-loop μ-loop
 loop-again c =
-    let at-loop = c .before .before .before .before in
-    let start = at-loop .before .before .before .before .before .before .before .before .before .before in
-    let l = at-loop .loop in (
+    let e = c .before in
+    let l = e .before .before .before .loop in (
       omega arith,
       omega arith,
       l .inv .2,
@@ -88,11 +110,12 @@ loop-again c =
       ⊎-elim
           (λ w.
           rw (w .5)
-          (split-lowers (start .pre .0) (start .args .from) (l .split) (l .sums) (omega arith) (l .inv .4) (omega arith) _
-          (omega arith) (omega arith) (w .2 .ensures)))
+          (split-lowers (start e .pre .0) (start e .args .from) (split e) (l .sums) (within e) (l .inv .4) (begun e) _ (released e)
+          (rw (e .wide3 .ensures .0) at (w .0 .taken)) (w .2 .ensures)))
           (λ w.
           rw (w .1)
-          (marked-skipped (start .pre .0) (start .args .from) (l .split) (l .sums) (omega arith) (l .inv .4) (omega arith)))
+          (marked-skipped (start e .pre .0) (start e .args .from) (split e) (l .sums) (within e) (l .inv .4)
+          (rw (e .wide3 .ensures .0) at (w .0 .left))))
           (c .if1 .came),
     )
 
