@@ -7,6 +7,7 @@ use native.Mathlib.Numerals.{add-one}
 use native.Mathlib.Omega.{arith}
 use lib.Dec.{eqb}
 use borrow.Author.Tests.{eq-eqb, ne-eqb}
+use Rattle.day.specs.declared.Day.{Day}
 use Rattle.day.specs.Windows.{at}
 use Rattle.day.proofs.Cases.{on-eq}
 use Rattle.rule.specs.Extreme.{least, latest}
@@ -14,7 +15,9 @@ use Rattle.rule.specs.Span.{Problem, may-split, value, sides, best-split, split
 use Rattle.rule.proofs.Extreme.{least-zero, least-pass, least-skip, least-none-pass, latest-pass, latest-skip, latest-cong}
 use Rattle.rule.proofs.Value.{In, MaySplit, may-split-intro, value-in, sides-is, best-split-is, split-is}
 use Rattle.planner.specs.Table.{Span, place}
+use Rattle.planner.specs.Jobs.{jobs, Prepared}
 use Rattle.planner.specs.Level.{Level}
+use Rattle.planner.proofs.Jobs.{values-fit}
 use Rattle.planner.proofs.Sums.{may-not-split}
 
 -- places that fail add nothing
@@ -37,6 +40,12 @@ pub sides-read : (P : Problem) (slots k s e t : ℕ) (table : List ℕ) → Leve
     → left + right ≡ sides P k s e t
 sides-read P slots k s e t table level v w left right p q =
     omega (arith, sides-is P k s e t, level s t v, rw add-one at (q ∙ level (t + 1) e w))
+
+-- and their sum has 16 bits
+pub sum-fits : {day : Day} {rel dead lowest : List ℕ} {n : ℕ} → Prepared day rel dead lowest n → (k s e t : ℕ) {v : ℕ}
+    → v ≡ sides (jobs day rel dead) k s e t → v < 65536
+sum-fits {day} {rel} {dead} p k s e t q =
+    omega (arith, q, sides-is (jobs day rel dead) k s e t, values-fit p k s t, values-fit p k (suc t) e)
 
 -- job k may split the span at t, with the sum v
 abbrev ties : Problem → ℕ → ℕ → ℕ → ℕ → ℕ → Bool
