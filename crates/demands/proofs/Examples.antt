@@ -9,7 +9,7 @@ use lib.Seq.{ext-getD}
 use Rattle.day.specs.declared.Answer.{Answer}
 use Rattle.day.specs.declared.Day.{Day}
 use Rattle.day.specs.Windows.{Windows, windows, at}
-use Rattle.day.specs.Plan.{NoPlan, taken}
+use Rattle.day.specs.Plan.{Plan, NoPlan, taken}
 use Rattle.day.specs.Gap.{price, ended, gaps-since, gaps, total, cost}
 use Rattle.day.specs.Far.{far-price}
 use Rattle.day.specs.Best.{Best}
@@ -17,13 +17,14 @@ use Rattle.day.specs.Answer.{says, done, short-table, no-plan}
 use Rattle.day.specs.Check.{Accepted}
 use Rattle.day.proofs.Cases.{give}
 use Rattle.day.proofs.Gap.{cost-agree}
+use Rattle.day.proofs.Bound.{cost-at-most-wakes}
 use Rattle.rule.specs.Extreme.{least, latest}
 use Rattle.rule.specs.Span.{in-span, clear, may-split, value-by, value, sides, best-split, split, read-back}
 use Rattle.planner.specs.Table.{need}
 use Rattle.demands.specs.Run.{Run, list, Promised, Served}
 use Rattle.demands.specs.BestPlan.{BestGiven}
 use Rattle.demands.specs.Examples.{Amount, exactly, up-to, at-least, Is, Example, Plans, Shows, Holds, examples, ExamplesHold}
-use Rattle.demands.proofs.Test.{Test, less, at-most, equal, fails, both, either, through, all-below, all-in}
+use Rattle.demands.proofs.Test.{Test, less, at-most, equal, fails, both, either, through, all-in}
 use Rattle.demands.proofs.Computed.{accepted-test, number, row, best-test, no-plan-test}
 use Rattle.demands.proofs.BestPlan.{best-or-none, short-given}
 
@@ -55,36 +56,106 @@ record HasShort (e : Example) (day : Day) (w : Windows) : Type 0 where
 abbrev Known : Example → Day → Windows → Type 0
 Known e day w = HasBest e day w ⊎ (HasNone e day w ⊎ HasShort e day w)
 
--- one test for each number that an amount allows
-abbrev each-amount : {P : ℕ → Type 0} → ((x : ℕ) → Test (P x)) → (m : Amount) → Test ((x : ℕ) → Is m x → P x)
-each-amount t (exactly n) = through (λ p x q. rw q p) (t n)
-each-amount t (up-to n) = through (λ f x q. f x (omega arith)) (all-below t (suc n))
-each-amount t (at-least n) = fails
+abbrev day-at : Example → ℕ → Day
+day-at e wake = record { slots = e .slots; power = record { wake = wake } }
+
+abbrev list-of : Example → Windows
+list-of e = windows (map (λ j. j .0) (e .jobs)) (map (λ j. j .1) (e .jobs))
 
 -- all that an amount allows is enough
 abbrev enough : (least : ℕ) (m : Amount) → Test ((x : ℕ) → Is m x → least ≤ x)
-enough least (exactly n) = each-amount (at-most least) (exactly n)
+enough least (exactly n) = through (λ l x q. rw q l) (at-most least n)
 enough least (up-to n) = fails
 enough least (at-least n) = through (λ l x q. omega (arith, q)) (at-most least n)
 
-known-test : (e : Example) (day : Day) (w : Windows) → Test (Known e day w)
-known-test e day w =
-    either
-    (through
+-- all that an amount allows is too little
+abbrev too-few : (least : ℕ) (m : Amount) → Test ((x : ℕ) → Is m x → x < least)
+too-few least (exactly n) = through (λ l x q. rw q l) (less n least)
+too-few least (up-to n) = through (λ l x q. omega (arith, q)) (less n least)
+too-few least (at-least n) = fails
+
+-- with one wake
+
+best-known : (e : Example) (day : Day) (w : Windows) → Test (HasBest e day w)
+best-known e day w =
+    through
     (λ t.
     record { code = t .0 .0; table = t .0 .1; accepted = t .1 .0 .0; best = t .1 .0 .1; long = t .1 .1 .0; first = t .1 .1 .1 })
     (both (both (equal (e .code) done) (enough (need (day .slots) (w .count)) (e .places)))
     (both (best-test day w (at (e .starts)))
-    (both (equal (length (e .starts)) (w .count)) (equal (cost day (w .count) (at (e .starts))) (e .first))))))
-    (either
-    (through
+    (both (equal (length (e .starts)) (w .count)) (equal (cost day (w .count) (at (e .starts))) (e .first)))))
+
+none-known : (e : Example) (day : Day) (w : Windows) → Test (HasNone e day w)
+none-known e day w =
+    through
     (λ t.
     record { code = t .0 .0; table = t .0 .1; accepted = t .1 .0 .0; none = t .1 .0 .1; starts = t .1 .1 .0; first = t .1 .1 .1 })
     (both (both (equal (e .code) no-plan) (enough (need (day .slots) (w .count)) (e .places)))
-    (both (no-plan-test day w) (both (equal (length (e .starts)) 0) (equal (e .first) 0)))))
-    (through (λ t. record { code = t .0 .0; table = t .0 .1; accepted = t .1 .0; starts = t .1 .1 .0; first = t .1 .1 .1 })
-    (both (both (equal (e .code) short-table) (each-amount (λ x. less x (need (day .slots) (w .count))) (e .places)))
-    (both (accepted-test day w) (both (equal (length (e .starts)) 0) (equal (e .first) 0))))))
+    (both (no-plan-test day w) (both (equal (length (e .starts)) 0) (equal (e .first) 0))))
+
+short-known : (e : Example) (day : Day) (w : Windows) → Test (HasShort e day w)
+short-known e day w =
+    through (λ t. record { code = t .0 .0; table = t .0 .1; accepted = t .1 .0; starts = t .1 .1 .0; first = t .1 .1 .1 })
+    (both (both (equal (e .code) short-table) (too-few (need (day .slots) (w .count)) (e .places)))
+    (both (accepted-test day w) (both (equal (length (e .starts)) 0) (equal (e .first) 0))))
+
+-- a row alone costs nothing
+lone-free : (day : Day) (w : Windows) (p : Plan) → w .count ≡ 1 → cost day (w .count) p ≡ 0
+lone-free day w p one = rw one (omega (arith, cost-at-most-wakes day 1 p))
+
+-- so no wake changes its best plan
+lone-best : (day other : Day) (w : Windows) (p : Plan) → w .count ≡ 1 → Best day w p → Best other w p
+lone-best day other w p one best =
+    record {
+      proper = best .proper;
+      cheapest = λ q Q. omega (arith, lone-free other w p one);
+      latest = λ q Q e. best .latest q Q (lone-free day w q one ∙ sym (lone-free day w p one));
+    }
+
+accepted-below : (slots wake most : ℕ) (w : Windows) → wake ≤ most
+    → Accepted (record { slots = slots; power = record { wake = most } }) w
+    → Accepted (record { slots = slots; power = record { wake = wake } }) w
+accepted-below slots wake most w l old =
+    record { some-slots = old .some-slots; slots = old .slots; wake = omega (arith, old .wake); rows = old .rows }
+
+lone-below : (e : Example) (wake most : ℕ) → wake ≤ most → list-of e .count ≡ 1 → HasBest e (day-at e most) (list-of e)
+    → HasBest e (day-at e wake) (list-of e)
+lone-below e wake most l one known =
+    record {
+      code = known .code;
+      accepted = accepted-below (e .slots) wake most (list-of e) l (known .accepted);
+      best = lone-best (day-at e most) (day-at e wake) (list-of e) (at (e .starts)) one (known .best);
+      long = known .long;
+      first =
+          lone-free (day-at e wake) (list-of e) (at (e .starts)) one
+          ∙ sym (lone-free (day-at e most) (list-of e) (at (e .starts)) one)
+          ∙ known .first;
+      table = known .table;
+    }
+
+none-below : (e : Example) (wake most : ℕ) → wake ≤ most → HasNone e (day-at e most) (list-of e)
+    → HasNone e (day-at e wake) (list-of e)
+none-below e wake most l known =
+    record {
+      code = known .code;
+      accepted = accepted-below (e .slots) wake most (list-of e) l (known .accepted);
+      none = known .none;
+      starts = known .starts;
+      first = known .first;
+      table = known .table;
+    }
+
+-- the one wake that is named, or the largest for all up to it: no smaller one changes a row alone, or that there is no plan
+known-test : (e : Example) (m : Amount) → Test ((wake : ℕ) → Is m wake → Known e (day-at e wake) (list-of e))
+known-test e (exactly n) =
+    through (λ known wake q. rw q known)
+    (either (best-known e (day-at e n) (list-of e))
+    (either (none-known e (day-at e n) (list-of e)) (short-known e (day-at e n) (list-of e))))
+known-test e (up-to n) =
+    through
+    (⊎-elim (λ known wake l. inl (lone-below e wake n l (known .0) (known .1))) (λ known wake l. inr (inl (none-below e wake n l known))))
+    (either (both (equal (list-of e .count) 1) (best-known e (day-at e n) (list-of e))) (none-known e (day-at e n) (list-of e)))
+known-test e (at-least n) = fails
 
 -- a list whose first places are set to xs
 front-replaced : (xs old new : List ℕ) → length new ≡ length old → length xs ≤ length old
@@ -153,12 +224,6 @@ module _ (e : Example) (run : Run) (plans : Plans e run) (promised : Promised ru
       refused-shown (answer ∙ ap (λ c. says c 0 0) (sym (known .code))) (known .first) (known .starts)
       (promised .unplanned (λ code. omega (arith, ap (λ (a : Answer). a .code) answer))))
 
-abbrev day-at : Example → ℕ → Day
-day-at e wake = record { slots = e .slots; power = record { wake = wake } }
-
-abbrev list-of : Example → Windows
-list-of e = windows (map (λ j. j .0) (e .jobs)) (map (λ j. j .1) (e .jobs))
-
 same-day : (e : Example) (run : Run) → Plans e run → day-at e (run .day .power .wake) ≡ run .day
 same-day e run plans = ap (λ (slots : ℕ). record { slots = slots; power = run .day .power }) (sym (plans .slots))
 
@@ -173,8 +238,8 @@ example-test e =
     (subst (λ (d : Day). Known e d (list run)) (same-day e run plans)
     (subst (Known e (day-at e (run .day .power .wake))) (same-list e run plans)
     (known (run .day .power .wake) (plans .wake)))))
-    (each-amount (λ wake. known-test e (day-at e wake) (list-of e)) (e .wake))
+    (known-test e (e .wake))
 
 pub examples-hold : ExamplesHold
-unfolding examples example-test known-test best-test no-plan-test need number row latest least in-span clear may-split value-by value far-price price sides best-split split read-back cost total gaps gaps-since ended taken
+unfolding examples example-test known-test best-known none-known short-known best-test no-plan-test need number row latest least in-span clear may-split value-by value far-price price sides best-split split read-back cost total gaps gaps-since ended taken
 examples-hold = all-in example-test examples .shows refl
