@@ -13,8 +13,7 @@ use Rattle.day.specs.Windows.{Windows}
 use Rattle.day.specs.Refusal.{_then_, Passed}
 use Rattle.day.specs.Check.{SlotsCheck, PowerCheck, JobsCheck, ListCheck}
 use Rattle.day.specs.Numbering.{Numbering}
-use Rattle.planner.specs.Table.{need}
-use Rattle.planner.specs.Promise.{PlanCheck, Planned}
+use Rattle.planner.specs.Promise.{PlanPromise}
 use Rattle.claim.specs.Claim.{Priced}
 use Rattle.claim.specs.Rows.{NextJob, Judged}
 use Rattle.claim.specs.Choice.{Chosen, HandedBack, SamePart}
@@ -42,9 +41,7 @@ pub record OneOutcome : Type 0 where
   pub number-rows : (deadlines order : List ℕ) → AtMostOne (Numbering deadlines order)
   -- planner
   pub plan : (day : Day) (w : Windows) (starts table : List ℕ)
-      → AtMostOne {A = Answer × List ℕ × List ℕ}
-      (λ o.
-      Planned (PlanCheck day w starts table) (need (day .slots) (w .count)) day w starts table (o .0) (o .1) (o .2))
+      → AtMostOne {A = Answer × List ℕ × List ℕ} (λ o. PlanPromise day w starts table (o .0) (o .1) (o .2))
   -- claim
   pub judge : (day : Day) (w : Windows) (starts : List ℕ) → AtMostOne (Judged day w starts)
   pub price : (day : Day) (w : Windows) (starts : List ℕ) → AtMostOne (Priced day w starts)

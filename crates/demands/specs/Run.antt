@@ -7,7 +7,7 @@ use Rattle.day.specs.declared.Day.{Day}
 use Rattle.day.specs.Windows.{Windows, windows}
 use Rattle.day.specs.Check.{Accepted}
 use Rattle.planner.specs.Table.{need}
-use Rattle.planner.specs.Promise.{PlanCheck, Planned}
+use Rattle.planner.specs.Promise.{PlanPromise}
 
 pub record Run : Type 0 where
   pub day : Day
@@ -27,8 +27,7 @@ list run = windows (run .releases) (run .deadlines)
 -- the run keeps the planner's promise
 abbrev pub Promised : Run → Type 0
 Promised run =
-    Planned (PlanCheck (run .day) (list run) (run .starts) (run .table)) (need (run .day .slots) (list run .count)) (run .day) (list run)
-    (run .starts) (run .table) (run .answer) (run .starts-after) (run .table-after)
+    PlanPromise (run .day) (list run) (run .starts) (run .table) (run .answer) (run .starts-after) (run .table-after)
 
 -- checks 1 to 6 have nothing to refuse
 pub record Taken (run : Run) : Type 0 where
