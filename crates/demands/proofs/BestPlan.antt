@@ -13,14 +13,14 @@ use Rattle.day.specs.Best.{Best}
 use Rattle.day.specs.Answer.{says, done, short-table, no-plan}
 use Rattle.day.specs.Refusal.{_then_, stops, goes-on}
 use Rattle.day.specs.Check.{Accepted}
-use Rattle.day.proofs.Cases.{give}
-use Rattle.day.proofs.Refusal.{then-next, then-clear}
-use Rattle.day.proofs.Check.{accepted-clear}
+use Rattle.day.proofs.Cases.{give, on-le}
+use Rattle.day.proofs.Refusal.{no-fault, then-next, then-clear, clear-first, clear-next}
+use Rattle.day.proofs.Check.{accepted-clear, clear-accepted}
 use Rattle.day.proofs.Best.{best-unique, best-costs}
 use Rattle.planner.specs.Table.{need}
 use Rattle.planner.specs.Promise.{Verdict, costs, none-proper, PlanCheck}
 use Rattle.demands.specs.Run.{Run, list, Promised, Taken, Served}
-use Rattle.demands.specs.BestPlan.{BestGiven, NoneGiven, BestOrNone, GivesBestOrNone, SevenIfNone}
+use Rattle.demands.specs.BestPlan.{BestGiven, NoneGiven, BestOrNone, GivesBestOrNone, AnswersTaken, SevenIfNone}
 
 -- what is taken is not refused
 taken-clear : (run : Run) → Taken run → (b : Answer) → PlanCheck (run .day) (list run) (run .starts) (run .table) b → ⊥
@@ -78,6 +78,30 @@ module _ (run : Run) (promised : Promised run) where
 pub best-or-none : GivesBestOrNone
 best-or-none run served =
     given run (served .promised) (then-next (taken-clear run (served .taken)) (run .answer) (served .promised .answer))
+
+-- the checks answer with codes 1 to 6
+refused-code : (run : Run) (a : Answer) → PlanCheck (run .day) (list run) (run .starts) (run .table) a → (0 < a .code) × (a .code < no-plan)
+refused-code run a (stops (stops p)) = omega (arith, code-of a _ _ _ (p .says))
+refused-code run a (stops (goes-on n (stops p))) = omega (arith, code-of a _ _ _ (p .says))
+refused-code run a (stops (goes-on n (goes-on m (stops p)))) = omega (arith, code-of a _ _ _ (p .says))
+refused-code run a (stops (goes-on n (goes-on m (goes-on o p)))) = omega (arith, code-of a _ _ _ (p .says))
+refused-code run a (goes-on n (stops p)) = omega (arith, code-of a _ _ _ (p .says))
+refused-code run a (goes-on n (goes-on m p)) = omega (arith, code-of a _ _ _ (p .says))
+
+pub answers-taken : AnswersTaken
+answers-taken run promised code = taken-by (promised .answer)
+  where
+    taken-by : (PlanCheck (run .day) (list run) (run .starts) (run .table) then Verdict (run .day) (list run)) (run .answer) → Taken run
+    taken-by (stops p) =
+        give (refused-code run (run .answer) p) (λ c. absurd (⊎-elim (λ e. omega arith) (λ e. omega arith) code))
+    taken-by (goes-on n p) =
+        record {
+          accepted = clear-accepted (clear-first n);
+          places = on-le (list run .count) (length (run .starts)) (λ h. h) (λ h. absurd (no-fault (clear-first (clear-next n)) h));
+          table =
+              on-le (need (run .day .slots) (list run .count)) (length (run .table)) (λ h. h)
+              (λ h. absurd (no-fault (clear-next (clear-next n)) h));
+        }
 
 pub best-code : (run : Run) → BestGiven run → run .answer .code ≡ done
 best-code run given = code-of (run .answer) done _ _ (given .answer)

@@ -1,6 +1,6 @@
 -- All that is promised holds. Assumes nothing.
 use Rattle.demands.specs.Demands.{Demands}
-use Rattle.demands.proofs.BestPlan.{best-or-none, seven-exactly}
+use Rattle.demands.proofs.BestPlan.{best-or-none, answers-taken, seven-exactly}
 use Rattle.demands.proofs.DayFile.{reads-back}
 use Rattle.demands.proofs.Joined.{joined-accepted}
 use Rattle.demands.proofs.SideBySide.{joins-side-by-side, joins-seven}
@@ -15,6 +15,7 @@ pub demands : Demands
 demands =
     record {
       best-plan = best-or-none;
+      checked = answers-taken;
       seven = seven-exactly;
       day-file = reads-back;
       joined-accepted = joined-accepted;

@@ -1,4 +1,5 @@
--- Demand 2: what the checks take is answered by the one best plan and its cost, or by 7, and by 7 exactly if there is no proper plan.
+-- Demand 2: what the checks take, and nothing else, is answered by the one best plan and its cost, or by 7, and by 7 exactly if there is no
+-- proper plan.
 use Prim.Native.Nat.{ℕ, _≤_, _<_}
 use mathlib.Core.Path.{_≡_}
 use mathlib.Core.Logic.{_⊎_}
@@ -8,7 +9,7 @@ use Rattle.day.specs.Plan.{Plan, NoPlan}
 use Rattle.day.specs.Gap.{cost}
 use Rattle.day.specs.Best.{Best}
 use Rattle.day.specs.Answer.{says, done, no-plan}
-use Rattle.demands.specs.Run.{Run, list, Served}
+use Rattle.demands.specs.Run.{Run, list, Promised, Taken, Served}
 
 -- code 0 and the cost of the plan that the first starts now hold, which is the best and the only one; the places after it are as they were
 pub record BestGiven (run : Run) : Type 0 where
@@ -26,6 +27,10 @@ pub record NoneGiven (run : Run) : Type 0 where
 
 abbrev pub BestOrNone : Run → Type 0
 BestOrNone run = BestGiven run ⊎ NoneGiven run
+
+-- 0 and 7 come only where checks 1 to 6 have nothing to refuse
+abbrev pub AnswersTaken : Type 0
+AnswersTaken = (run : Run) → Promised run → (run .answer .code ≡ done) ⊎ (run .answer .code ≡ no-plan) → Taken run
 
 -- 7 exactly if there is no proper plan
 pub record SevenExactly (run : Run) : Type 0 where

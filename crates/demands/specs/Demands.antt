@@ -1,5 +1,5 @@
 -- All that is promised, in one place. Each field is a statement of the file that it comes from.
-use Rattle.demands.specs.BestPlan.{GivesBestOrNone, SevenIfNone}
+use Rattle.demands.specs.BestPlan.{GivesBestOrNone, AnswersTaken, SevenIfNone}
 use Rattle.demands.specs.DayFile.{ReadsBack}
 use Rattle.demands.specs.SideBySide.{JoinedAccepted, JoinsSideBySide, JoinsSeven}
 use Rattle.demands.specs.Mirrored.{MirroredAccepted, MirroredAnswer}
@@ -12,6 +12,7 @@ use Rattle.demands.specs.Impostors.{NoImpostor}
 pub record Demands : Type 0 where
   -- demand 2
   pub best-plan : GivesBestOrNone
+  pub checked : AnswersTaken
   pub seven : SevenIfNone
   pub day-file : ReadsBack
   -- demand 3
