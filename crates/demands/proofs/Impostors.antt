@@ -1,15 +1,14 @@
 -- No impostor keeps the promise: each fails at an example. Assumes nothing.
-use Prim.Native.Nat.{ℕ, zero, suc, _<_}
+use Prim.Native.Nat.{ℕ, zero, suc, _≤_, _<_}
 use mathlib.Core.Path.{_≡_, refl, sym, _∙_, ap}
-use mathlib.Core.List.{List, [], _∷_, map}
+use mathlib.Core.List.{List, [], _∷_, _++_, map}
 use native.Mathlib.Omega.{arith}
-use lib.ListN.{length, getD, take, replicate}
-use Rattle.day.specs.declared.Answer.{Answer}
+use lib.ListN.{length, getD, take, drop, replicate, length-replicate}
 use Rattle.day.specs.Windows.{at}
-use Rattle.day.specs.Answer.{says, done}
+use Rattle.day.specs.Answer.{done}
 use Rattle.day.proofs.Cases.{give}
 use Rattle.demands.specs.Run.{Promised}
-use Rattle.demands.specs.Examples.{exactly, Example, Plans, Shows, day-of, Each, none, one, examples}
+use Rattle.demands.specs.Examples.{exactly, Is, Example, Shows, day-of, Each, none, one, examples}
 use Rattle.demands.specs.Impostors.{Input, Planner, run-of, Always, Seven, Fixed, Writeless, FirstRepeated, NoImpostor}
 use Rattle.demands.proofs.Examples.{examples-hold}
 
@@ -22,13 +21,16 @@ each-at (one p ps) (suc i) other l = each-at ps i other (omega arith)
 no-example : Example
 no-example = day-of [] 0 (exactly 0) (exactly 0) 0 0 []
 
--- an input with these jobs, T, L and starts, and a work table of as many places
-input-of : List (ℕ × ℕ) → ℕ → ℕ → List ℕ → ℕ → Input
-input-of jobs slots wake starts places =
+example-at : ℕ → Example
+example-at i = getD examples i no-example
+
+-- the input of an example, with this L, these starts and a work table of as many places
+input-of : Example → ℕ → List ℕ → ℕ → Input
+input-of e wake starts places =
     record {
-      day = record { slots = slots; power = record { wake = wake } };
-      releases = map (λ j. j .0) jobs;
-      deadlines = map (λ j. j .1) jobs;
+      day = record { slots = e .slots; power = record { wake = wake } };
+      releases = map (λ j. j .0) (e .jobs);
+      deadlines = map (λ j. j .1) (e .jobs);
       starts = starts;
       table = replicate places 0;
     }
@@ -36,61 +38,59 @@ input-of jobs slots wake starts places =
 -- P2, with another number where the start goes; P4; P5 and its rows swapped
 
 alone : Input
-alone = input-of ((0, 1) ∷ []) 1 0 (5 ∷ []) 32
+alone = input-of (example-at 2) 0 (5 ∷ []) 32
 
 equals : Input
-equals = input-of ((0, 2) ∷ (0, 2) ∷ []) 2 1 (0 ∷ 0 ∷ []) 75
+equals = input-of (example-at 4) 1 (0 ∷ 0 ∷ []) 75
 
 rows : Input
-rows = input-of ((0, 4) ∷ (3, 6) ∷ []) 6 3 (0 ∷ 0 ∷ []) 243
+rows = input-of (example-at 6) 3 (0 ∷ 0 ∷ []) 243
 
 swapped : Input
-swapped = input-of ((3, 6) ∷ (0, 4) ∷ []) 6 3 (0 ∷ 0 ∷ []) 243
+swapped = input-of (example-at 7) 3 (0 ∷ 0 ∷ []) 243
 
 module _ (planner : Planner) (promised : Always Promised planner) where
-  -- it shows what the table has at a place
-  shown : (i : ℕ) → i < length examples → (input : Input) → Plans (getD examples i no-example) (run-of planner input)
-      → Shows (getD examples i no-example) (run-of planner input)
-  shown i l input plans = each-at examples-hold i no-example l (run-of planner input) plans (promised input)
-
-  code-is : {code first : ℕ} (a : Answer) → a ≡ says code first 0 → a .code ≡ code
-  code-is a e = rw e
+  -- it shows what the table has at a place: its code and its starts
+  shown : (i : ℕ) → i < length examples → (wake : ℕ) (starts : List ℕ) (places : ℕ) → Is (example-at i .wake) wake
+      → Is (example-at i .places) places → length (example-at i .jobs) ≤ length starts
+      → (planner (input-of (example-at i) wake starts places) .0 .code ≡ example-at i .code)
+      × (planner (input-of (example-at i) wake starts places) .1
+      ≡ example-at i .starts ++ drop (length (example-at i .starts)) starts)
+  unfolding example-at input-of
+  shown i l wake starts places right enough room =
+      give (each-at examples-hold i no-example l (run-of planner (input-of (example-at i) wake starts places))
+      (record {
+        releases = refl;
+        deadlines = refl;
+        slots = refl;
+        wake = right;
+        places = rw (length-replicate {A = ℕ} places 0) enough;
+        room = room;
+      })
+      (promised (input-of (example-at i) wake starts places)))
+      (λ (s : Shows (example-at i) (run-of planner (input-of (example-at i) wake starts places))). (rw (s .answer), s .starts))
 
   alone-shown : (planner alone .0 .code ≡ done) × (planner alone .1 ≡ 0 ∷ [])
-  unfolding alone input-of examples
-  alone-shown =
-      give
-      (shown 2 (omega arith) alone
-      (record { releases = refl; deadlines = refl; slots = refl; wake = omega arith; places = omega arith; room = omega arith }))
-      (λ s. (code-is (planner alone .0) (s .answer), s .starts))
+  unfolding alone example-at examples
+  alone-shown = shown 2 (omega arith) 0 (5 ∷ []) 32 (omega arith) (omega arith) (omega arith)
 
   equals-shown : planner equals .1 ≡ 0 ∷ 1 ∷ []
-  unfolding equals input-of examples
-  equals-shown =
-      shown 4 (omega arith) equals
-      (record { releases = refl; deadlines = refl; slots = refl; wake = refl; places = omega arith; room = omega arith }) .starts
+  unfolding equals example-at examples
+  equals-shown = shown 4 (omega arith) 1 (0 ∷ 0 ∷ []) 75 refl (omega arith) (omega arith) .1
 
   rows-shown : (planner rows .0 .code ≡ done) × (planner rows .1 ≡ 3 ∷ 4 ∷ [])
-  unfolding rows input-of examples
-  rows-shown =
-      give
-      (shown 6 (omega arith) rows
-      (record { releases = refl; deadlines = refl; slots = refl; wake = refl; places = omega arith; room = omega arith }))
-      (λ s. (code-is (planner rows .0) (s .answer), s .starts))
+  unfolding rows example-at examples
+  rows-shown = shown 6 (omega arith) 3 (0 ∷ 0 ∷ []) 243 refl (omega arith) (omega arith)
 
   swapped-shown : (planner swapped .0 .code ≡ done) × (planner swapped .1 ≡ 4 ∷ 3 ∷ [])
-  unfolding swapped input-of examples
-  swapped-shown =
-      give
-      (shown 7 (omega arith) swapped
-      (record { releases = refl; deadlines = refl; slots = refl; wake = refl; places = omega arith; room = omega arith }))
-      (λ s. (code-is (planner swapped .0) (s .answer), s .starts))
+  unfolding swapped example-at examples
+  swapped-shown = shown 7 (omega arith) 3 (0 ∷ 0 ∷ []) 243 refl (omega arith) (omega arith)
 
   not-seven : Always Seven planner → ⊥
   not-seven seven = omega (arith, alone-shown .0, seven alone)
 
   not-fixed : (plan : List ℕ) → Always (Fixed plan) planner → ⊥
-  unfolding rows swapped input-of
+  unfolding rows swapped example-at examples input-of
   not-fixed plan fixed =
       give (sym (fixed rows (rows-shown .0)) ∙ ap (take 2) (rows-shown .1))
       (λ first.
