@@ -6,13 +6,13 @@ use native.Mathlib.Omega.{arith}
 use lib.ListN.{length}
 use Rattle.day.specs.declared.Answer.{Answer}
 use Rattle.day.specs.declared.Day.{Day}
-use Rattle.day.specs.Windows.{at}
+use Rattle.day.specs.Windows.{Windows, at}
 use Rattle.day.specs.Plan.{Plan, NoPlan}
 use Rattle.day.specs.Gap.{cost}
 use Rattle.day.specs.Best.{Best}
 use Rattle.day.specs.Answer.{says, done, short-table, no-plan}
 use Rattle.day.specs.Refusal.{_then_, stops, goes-on}
-use Rattle.day.specs.Check.{Accepted}
+use Rattle.day.specs.Check.{most-jobs, GoodRows, Accepted}
 use Rattle.day.proofs.Cases.{give, on-le}
 use Rattle.day.proofs.Refusal.{no-fault, then-next, then-clear, clear-first, clear-next}
 use Rattle.day.proofs.Check.{accepted-clear, clear-accepted}
@@ -21,6 +21,10 @@ use Rattle.planner.specs.Table.{need}
 use Rattle.planner.specs.Promise.{Verdict, costs, none-proper, PlanCheck}
 use Rattle.demands.specs.Run.{Run, list, Promised, Taken, Served}
 use Rattle.demands.specs.BestPlan.{BestGiven, NoneGiven, BestOrNone, GivesBestOrNone, AnswersTaken, SevenIfNone}
+
+-- another list is accepted on the same day if its rows are good
+pub accepted-too : {day : Day} {w v : Windows} → Accepted day w → GoodRows most-jobs (day .slots) v → Accepted day v
+accepted-too old rows = record { some-slots = old .some-slots; slots = old .slots; wake = old .wake; rows = rows }
 
 -- what is taken is not refused
 taken-clear : (run : Run) → Taken run → (b : Answer) → PlanCheck (run .day) (list run) (run .starts) (run .table) b → ⊥

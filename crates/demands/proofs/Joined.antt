@@ -14,6 +14,7 @@ use Rattle.day.proofs.Plan.{Alike}
 use Rattle.day.proofs.Joined.{on-row, beside-first, beside-after}
 use Rattle.demands.specs.Run.{Run, list}
 use Rattle.demands.specs.SideBySide.{Joins, JoinedAccepted}
+use Rattle.demands.proofs.BestPlan.{accepted-too}
 
 -- an entry of a joined list is one of the first, or one of the second
 pub append-beside : (xs ys : List ℕ) (n i : ℕ) → length xs ≡ n → at (xs ++ ys) i ≡ beside n (at xs) (at ys) i
@@ -58,17 +59,12 @@ module _ (g : ℕ) (first second whole : Run) (joins : Joins g first second whol
       → ((k : ℕ) → k < v .count → (list whole .release (from + k) ≡ v .release k) × (list whole .deadline (from + k) ≡ v .deadline k))
       → Accepted (whole .day) (list whole) → Accepted (whole .day) v
   part-accepted v from few same old =
-      record {
-        some-slots = old .some-slots;
-        slots = old .slots;
-        wake = old .wake;
-        rows =
-            record {
-              count = omega (arith, old .rows .count);
-              window = λ k l. omega (arith, same k l .0, same k l .1, old .rows .window (from + k) (omega arith));
-              in-day = λ k l. omega (arith, same k l .1, old .rows .in-day (from + k) (omega arith));
-            };
-      }
+      accepted-too old
+      (record {
+        count = omega (arith, old .rows .count);
+        window = λ k l. omega (arith, same k l .0, same k l .1, old .rows .window (from + k) (omega arith));
+        in-day = λ k l. omega (arith, same k l .1, old .rows .in-day (from + k) (omega arith));
+      })
 
   both-accepted : Accepted (whole .day) (list whole) → Accepted (whole .day) (list first) × Accepted (whole .day) (list second)
   both-accepted old = (

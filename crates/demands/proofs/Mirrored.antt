@@ -15,23 +15,18 @@ use Rattle.day.proofs.Mirrored.{mirrored-no-plan, no-plan-mirrored, mirrored-be
 use Rattle.demands.specs.Run.{Run, list, Served}
 use Rattle.demands.specs.BestPlan.{BestOrNone}
 use Rattle.demands.specs.Mirrored.{Mirrors, MirroredAccepted, MirroredAnswer}
-use Rattle.demands.proofs.BestPlan.{best-or-none, given-on}
+use Rattle.demands.proofs.BestPlan.{accepted-too, best-or-none, given-on}
 
 accepted-opposite : (run other : Run) → Mirrors run other → Accepted (run .day) (list run) → Accepted (run .day) (list other)
 accepted-opposite run other mirrors old =
-    record {
-      some-slots = old .some-slots;
-      slots = old .slots;
-      wake = old .wake;
-      rows =
-          record {
-            count = omega (arith, old .rows .count, mirrors .count);
-            window = λ i l.
-                give {A = i < list run .count} (omega (arith, mirrors .count))
-                (λ h. omega (arith, mirrors .release i h, mirrors .deadline i h, old .rows .window i h, old .rows .in-day i h));
-            in-day = λ i l. omega (arith, mirrors .deadline i (omega (arith, mirrors .count)));
-          };
-    }
+    accepted-too old
+    (record {
+      count = omega (arith, old .rows .count, mirrors .count);
+      window = λ i l.
+          give {A = i < list run .count} (omega (arith, mirrors .count))
+          (λ h. omega (arith, mirrors .release i h, mirrors .deadline i h, old .rows .window i h, old .rows .in-day i h));
+      in-day = λ i l. omega (arith, mirrors .deadline i (omega (arith, mirrors .count)));
+    })
 
 pub mirrored-accepted : MirroredAccepted
 mirrored-accepted run other mirrors old = rw (mirrors .day) (accepted-opposite run other mirrors old)

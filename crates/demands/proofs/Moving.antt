@@ -14,7 +14,7 @@ use Rattle.moving.proofs.Moving.{acceptable}
 use Rattle.demands.specs.Run.{Run, list, Served}
 use Rattle.demands.specs.BestPlan.{BestOrNone}
 use Rattle.demands.specs.Moving.{Moves, MovedAccepted, MovedAnswer, MovingKeeps}
-use Rattle.demands.proofs.BestPlan.{best-or-none, none-code, given-on}
+use Rattle.demands.proofs.BestPlan.{accepted-too, best-or-none, none-code, given-on}
 
 shifted-same : (by : ℤ) (x y z : ℕ) → Shifts by x y → Shifts by x z → y ≡ z
 shifted-same by x y z p q = let same : pos y ≡ pos z = sym p ∙ q in cc
@@ -40,17 +40,12 @@ module _ (by : ℤ) (run other : Run) (moves : Moves by run other) where
 
   accepted-there : Accepted (run .day) (list run) → Accepted (run .day) (list other)
   accepted-there old =
-      record {
-        some-slots = old .some-slots;
-        slots = old .slots;
-        wake = old .wake;
-        rows =
-            record {
-              count = omega (arith, old .rows .count, moved .count);
-              window = λ i l. stays-there i l .0;
-              in-day = λ i l. stays-there i l .1;
-            };
-      }
+      accepted-too old
+      (record {
+        count = omega (arith, old .rows .count, moved .count);
+        window = λ i l. stays-there i l .0;
+        in-day = λ i l. stays-there i l .1;
+      })
 
 pub moved-accepted : MovedAccepted
 moved-accepted by run other moves old = rw (moves .day) (accepted-there by run other moves old)
