@@ -49,7 +49,7 @@ module _ (day : Day) (w : Windows) (row : ℕ → ℕ) (none : ℕ) (R : Ready d
       )
 
   -- where there is a proper plan the value is below `none`
-  pub whole-below : (p : Plan) → Proper w p → whole day w row none < none
+  whole-below : (p : Plan) → Proper w p → whole day w row none < none
   whole-below p P = omega (arith, whole-least p P, ends-at-most-two day (w .count), R .above p P)
 
   -- a value of `none` says that there is no proper plan
@@ -63,7 +63,7 @@ module _ (day : Day) (w : Windows) (row : ℕ → ℕ) (none : ℕ) (R : Ready d
         (omega arith) h
 
     -- every start read back is a slot of the day, counted from 1
-    pub back-in-day : (k : ℕ) → k < w .count
+    back-in-day : (k : ℕ) → k < w .count
         → (1 ≤ whole-back day w row none k) × (whole-back day w row none k ≤ day .slots)
     back-in-day k l =
         omega (
