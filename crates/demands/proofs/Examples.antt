@@ -112,6 +112,8 @@ lone-best day other w p one best =
       latest = λ q Q e. best .latest q Q (lone-free day w q one ∙ sym (lone-free day w p one));
     }
 
+-- what is known with the largest wake is known with a smaller one
+
 accepted-below : (slots wake most : ℕ) (w : Windows) → wake ≤ most
     → Accepted (record { slots = slots; power = record { wake = most } }) w
     → Accepted (record { slots = slots; power = record { wake = wake } }) w

@@ -1,5 +1,5 @@
--- Two outcomes that satisfy a promise are equal. A field for each function that another crate can call, save where the promise is an equation
--- for all that comes out. An outcome is what comes back and what the lent lists hold afterwards.
+-- Two outcomes that satisfy a promise are equal. A field for each function that another crate or C can call, save where the promise is an
+-- equation for all that comes out. An outcome is what comes back and what the lent lists hold afterwards.
 use Prim.Native.Nat.{ℕ}
 use mathlib.Core.Path.{_≡_}
 use mathlib.Core.List.{List}

@@ -7,7 +7,7 @@ use Rattle.rule.specs.Extreme.{least, latest}
 pub record Problem : Type 0 where
   -- what it costs from a point to a point with no job between them, as if jobs stood just before the one and at the other
   pub price : ℕ → ℕ → ℕ
-  -- the starts that are searched
+  -- the starts that are searched; of a day, all
   pub allowed : ℕ → Bool
   -- stands for "none": every value is at most this
   pub none : ℕ
