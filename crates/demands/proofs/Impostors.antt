@@ -1,15 +1,27 @@
--- No impostor keeps the promise: each fails at an example. Assumes nothing.
+-- No impostor keeps its promise: each planner fails at an example, the ledger at two plans of one row. Assumes nothing.
 use Prim.Native.Nat.{ℕ, zero, suc, _≤_, _<_}
 use mathlib.Core.Path.{_≡_, refl, sym, _∙_, ap}
 use mathlib.Core.List.{List, [], _∷_, _++_, map}
 use native.Mathlib.Omega.{arith}
 use lib.ListN.{length, getD, take, drop, replicate, length-replicate}
-use Rattle.day.specs.Windows.{at}
+use Rattle.day.specs.declared.Answer.{Answer}
+use Rattle.day.specs.declared.Day.{Day}
+use Rattle.day.specs.Windows.{Windows, windows, at}
 use Rattle.day.specs.Answer.{done}
+use Rattle.day.specs.Check.{Accepted}
 use Rattle.day.proofs.Cases.{give}
+use Rattle.day.proofs.Refusal.{then-next, then-clear}
+use Rattle.day.proofs.Check.{accepted-clear}
+use Rattle.claim.specs.Claim.{Fit}
+use Rattle.claim.proofs.Claim.{fit-clear}
+use Rattle.claim.proofs.Rows.{row-at-none, row-at-here, row-at-other}
+use Rattle.ledger.specs.declared.Counts.{Counts}
+use Rattle.ledger.specs.Promise.{Ledgered}
+use Rattle.ledger.proofs.Outer.{before-first-job}
 use Rattle.demands.specs.Run.{Promised}
 use Rattle.demands.specs.Examples.{exactly, Is, Example, Shows, day-of, Each, none, one, examples}
-use Rattle.demands.specs.Impostors.{Input, Planner, run-of, Always, Seven, Fixed, Writeless, FirstRepeated, NoImpostor}
+use Rattle.demands.specs.Impostors.{Input, Planner, run-of, Always, Seven, Fixed, Writeless, FirstRepeated, Ledger, Planless, NoImpostor}
+use Rattle.demands.proofs.Computed.{accepted-test}
 use Rattle.demands.proofs.Examples.{examples-hold}
 
 each-at : {A : Type 0} {P : A → Type 0} {xs : List A} → Each P xs → (i : ℕ) (other : A) → i < length xs → P (getD xs i other)
@@ -105,6 +117,57 @@ module _ (planner : Planner) (promised : Always Promised planner) where
   not-first-repeated repeated =
       omega (arith, repeated equals 1, ap (λ xs. at xs 0) equals-shown, ap (λ xs. at xs 1) equals-shown)
 
+-- one row that may start at slot 0 or 1, and what a ledger counts before it
+
+two-slots : Day
+two-slots = record { slots = 2; power = record { wake = 0 } }
+
+either-slot : Windows
+either-slot = windows (0 ∷ []) (2 ∷ [])
+
+either-accepted : Accepted two-slots either-slot
+unfolding two-slots either-slot
+either-accepted = accepted-test two-slots either-slot .shows refl
+
+either-fits : (t : ℕ) → t < 2 → Fit either-slot (t ∷ [])
+unfolding either-slot
+either-fits t l =
+    record {
+      long = omega arith;
+      proper =
+          record {
+            inside = λ i h. give {A = i ≡ 0} (omega arith) (λ z. rw z (omega arith));
+            apart = λ i j h k e. omega arith;
+          };
+    }
+
+module _ (ledger : Ledger) (promised : (day : Day) (w : Windows) (starts : List ℕ) → Ledgered day w starts (ledger day w starts)) where
+  either-done : (t : ℕ) → t < 2 → ledger two-slots either-slot (t ∷ []) .answer .code ≡ done
+  either-done t l =
+      ap (λ (a : Answer). a .code)
+      (then-next (then-clear (accepted-clear either-accepted) (fit-clear either-slot (t ∷ []) (either-fits t l))) (ledger two-slots either-slot (t ∷ []) .answer)
+      (promised two-slots either-slot (t ∷ []) .answer))
+
+  before-either : (t : ℕ) → t < 2 → ledger two-slots either-slot (t ∷ []) .counts .before ≡ t
+  unfolding two-slots either-slot
+  before-either t l =
+      before-first-job t (promised two-slots either-slot (t ∷ []) .accepted (either-done t l))
+      (record {
+        within = omega arith;
+        fault = λ h e. omega (arith, row-at-here 0 (at (t ∷ [])) t refl);
+        lowest = λ u h busy. busy (row-at-other 0 (at (t ∷ [])) u (λ e. omega arith) ∙ row-at-none (at (t ∷ [])) u);
+      })
+
+  not-planless : Planless ledger → ⊥
+  not-planless planless =
+      omega (
+        arith,
+        before-either 0 (omega arith),
+        before-either 1 (omega arith),
+        ap (λ (c : Counts). c .before)
+            (planless two-slots either-slot (0 ∷ []) (1 ∷ []) (either-done 0 (omega arith)) (either-done 1 (omega arith))),
+      )
+
 pub no-impostor : NoImpostor
 no-impostor =
     record {
@@ -112,4 +175,5 @@ no-impostor =
       fixed = λ planner plan promised. not-fixed planner promised plan;
       writeless = not-writeless;
       first-repeated = not-first-repeated;
+      planless = not-planless;
     }

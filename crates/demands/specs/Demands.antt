@@ -30,5 +30,5 @@ pub record Demands : Type 0 where
   pub examples : ExamplesHold
   -- two outcomes are equal
   pub one-outcome : OneOutcome
-  -- planners that the promise rules out
+  -- programs that the promises rule out
   pub no-impostor : NoImpostor
