@@ -12,7 +12,7 @@ ghost use lib.ListN.{length, replicate};
 ghost use Rattle.day.specs.Windows.{at};
 ghost use Rattle.report.specs.Decimal.{decimal};
 ghost use Rattle.report.specs.Append.{Appended};
-ghost use Rattle.report.specs.Lines.{blank, line-feed, spaced, plan-line, row-line, row-lines, slots-line, Prints, lines};
+ghost use Rattle.report.specs.Lines.{blank, line-feed, spaced, line, row-line, row-lines, Prints, lines};
 
 // The text is the first `len` bytes.
 pub struct Text {
@@ -25,7 +25,8 @@ pub fn render(answer: Answer, count: u16, starts: &[u16], counts: Counts) -> Tex
     ensures { λ t. ⌜ Prints (lines answer count (at (now (starts .entry))) counts) t ⌝ }
 {
     let mut bytes = empty();
-    let planned = put_plan_line(&mut bytes, 0, answer);
+    let numbers = [answer.code, answer.first];
+    let planned = put_line(&mut bytes, 0, b"plan", &numbers);
     if answer.code != code::DONE {
         return Text {
             bytes,
@@ -33,7 +34,14 @@ pub fn render(answer: Answer, count: u16, starts: &[u16], counts: Counts) -> Tex
         };
     }
     let listed = put_row_lines(&mut bytes, planned, shown(count), starts);
-    let len = put_slots_line(&mut bytes, listed, counts);
+    let columns = [
+        counts.before,
+        counts.job,
+        counts.awake,
+        counts.asleep,
+        counts.after,
+    ];
+    let len = put_line(&mut bytes, listed, b"slots", &columns);
     Text { bytes, len }
 }
 
@@ -54,14 +62,13 @@ fn shown(count: u16) -> usize
     }
 }
 
-// Each function below puts its bytes at a place of the buffer and gives the place after them.
-fn put_plan_line(buffer: &mut [u8], place: usize, answer: Answer) -> usize
-    requires { ⌜ place + 17 ≤ length (now buffer) ⌝ }
-    ensures { λ end. ⌜ (end ≤ place + 17) × Appended (plan-line answer) place end (now (buffer .entry)) (now (buffer .exit)) ⌝ }
+// Each function below puts its bytes at a place of the buffer and gives the place after them; this one a word, numbers, and the line's end.
+fn put_line(buffer: &mut [u8], place: usize, word: &[u8], numbers: &[u16]) -> usize
+    requires { ⌜ place + length (now word) + 6 * length (now numbers) + 1 ≤ length (now buffer) ⌝ }
+    ensures { λ end. ⌜ (end ≤ place + length (now (word .entry)) + 6 * length (now (numbers .entry)) + 1) × Appended (line (now (word .entry)) (now (numbers .entry))) place end (now (buffer .entry)) (now (buffer .exit)) ⌝ }
 {
-    let word = put_word(buffer, place, b"plan");
-    let numbers = [answer.code, answer.first];
-    put_numbers(buffer, word, &numbers)
+    let end = put_word(buffer, place, word);
+    put_numbers(buffer, end, numbers)
 }
 
 fn put_row_lines(buffer: &mut [u8], place: usize, count: usize, starts: &[u16]) -> usize
@@ -83,21 +90,6 @@ fn put_row_line(buffer: &mut [u8], place: usize, row: u16, start: u16) -> usize
 {
     let word = put_decimal(buffer, place, row);
     let numbers = [start];
-    put_numbers(buffer, word, &numbers)
-}
-
-fn put_slots_line(buffer: &mut [u8], place: usize, counts: Counts) -> usize
-    requires { ⌜ place + 36 ≤ length (now buffer) ⌝ }
-    ensures { λ end. ⌜ (end ≤ place + 36) × Appended (slots-line counts) place end (now (buffer .entry)) (now (buffer .exit)) ⌝ }
-{
-    let word = put_word(buffer, place, b"slots");
-    let numbers = [
-        counts.before,
-        counts.job,
-        counts.awake,
-        counts.asleep,
-        counts.after,
-    ];
     put_numbers(buffer, word, &numbers)
 }
 
