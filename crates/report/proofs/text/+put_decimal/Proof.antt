@@ -7,135 +7,82 @@ use borrow.Fn.PlainCycle.{Measures, is, falls, and}
 use lib.ListN.{length, length-append}
 use Rattle.report.proofs.Append.{appended-join}
 use Rattle.report.proofs.Decimal.{decimal-small, decimal-large}
-use Rattle.report.proofs.text.put_decimal.Reads as put-decimal
-use Rattle.report.proofs.text.put_decimal.Kinds as put-decimal-kinds
-use Rattle.report.proofs.text.+put_decimal.Lts-put_decimal as put-decimal-lts
+use Rattle.report.proofs.text.put_decimal.Reads as reads
+use Rattle.report.proofs.text.put_decimal.Kinds as kinds
+use Rattle.report.proofs.text.+put_decimal.Lts-put_decimal as lts
 use Rattle.report.proofs.text.put_byte.Reads as put-byte-reads
 use Rattle.report.proofs.text.+put_decimal.{statement}
 use Rattle.report.proofs.text.+put_decimal.Tie.{close}
 
-abbrev μ-put-decimal : Measures 1 put-decimal-kinds.ps ℕ
-μ-put-decimal κs a = a .1 .1 .0
+abbrev μ : Measures 1 kinds.ps ℕ
+μ κs a = a .1 .1 .0
 
-abbrev put-decimal-at : ℕ → In 1 put-decimal-kinds.ps
-put-decimal-at t =
-    and 1 put-decimal-kinds.ps (is 1 put-decimal-kinds.ps μ-put-decimal t) put-decimal.Pre
+-- the call for a number t, given the contract for lower ones
+module _ (t : ℕ) where
+  abbrev at : In 1 kinds.ps
+  at = and 1 kinds.ps (is 1 kinds.ps μ t) reads.Pre
 
-abbrev put-decimal-below : ℕ → In 1 put-decimal-kinds.ps
-put-decimal-below t =
-    and 1 put-decimal-kinds.ps (falls 1 put-decimal-kinds.ps _<_ μ-put-decimal t) put-decimal.Pre
+  abbrev claims : lts.Claims
+  claims = (
+    put-byte-reads.Asked,
+    put-byte-reads.Learnt,
+    and 1 kinds.ps (falls 1 kinds.ps _<_ μ t) reads.Pre,
+    reads.Post,
+  )
 
-put-decimal-cast-put-byte : (t : ℕ) → put-decimal-lts.Need-cast-put-byte (
-  put-byte-reads.Asked,
-  put-byte-reads.Learnt,
-  put-decimal-below t,
-  put-decimal.Post,
-) (put-decimal-at t) put-decimal.Post
-put-decimal-cast-put-byte t c = search needs
+  cast-put-byte : lts.Need-cast-put-byte claims at reads.Post
+  cast-put-byte c = search needs
 
-put-decimal-add-put-byte : (t : ℕ) → put-decimal-lts.Need-add-put-byte (
-  put-byte-reads.Asked,
-  put-byte-reads.Learnt,
-  put-decimal-below t,
-  put-decimal.Post,
-) (put-decimal-at t) put-decimal.Post
-put-decimal-add-put-byte t c = search needs
+  add-put-byte : lts.Need-add-put-byte claims at reads.Post
+  add-put-byte c = search needs
 
-put-decimal-put-byte-requires : (t : ℕ) → put-decimal-lts.Need-put-byte-requires (
-  put-byte-reads.Asked,
-  put-byte-reads.Learnt,
-  put-decimal-below t,
-  put-decimal.Post,
-) (put-decimal-at t) put-decimal.Post
-put-decimal-put-byte-requires t c κs = omega (arith, rw (decimal-small _ (c .before .if1 .taken)) at (c .before .before .before .pre .1))
+  put-byte-requires : lts.Need-put-byte-requires claims at reads.Post
+  put-byte-requires c κs = omega (arith, rw (decimal-small _ (c .before .if1 .taken)) at (c .before .before .before .pre .1))
 
-put-decimal-same-length : (t : ℕ) → put-decimal-lts.Need-same-length (
-  put-byte-reads.Asked,
-  put-byte-reads.Learnt,
-  put-decimal-below t,
-  put-decimal.Post,
-) (put-decimal-at t) put-decimal.Post
-put-decimal-same-length t c = search needs
+  same-length : lts.Need-same-length claims at reads.Post
+  same-length c = search needs
 
-put-decimal-returns : (t : ℕ) → put-decimal-lts.Need-returns (
-  put-byte-reads.Asked,
-  put-byte-reads.Learnt,
-  put-decimal-below t,
-  put-decimal.Post,
-) (put-decimal-at t) put-decimal.Post
-put-decimal-returns t c = rw (decimal-small _ (c .before .before .before .before .if1 .taken)) (c .before .before .put-byte .ensures)
+  returns : lts.Need-returns claims at reads.Post
+  returns c = rw (decimal-small _ (c .before .before .before .before .if1 .taken)) (c .before .before .put-byte .ensures)
 
-put-decimal-put-decimal-requires : (t : ℕ) → put-decimal-lts.Need-put-decimal-requires (
-  put-byte-reads.Asked,
-  put-byte-reads.Learnt,
-  put-decimal-below t,
-  put-decimal.Post,
-) (put-decimal-at t) put-decimal.Post
-put-decimal-put-decimal-requires t c κs = (
-  omega (arith, c .before .before .before .pre .0),
-  omega (arith, simp (decimal-large _ (c .before .if1 .left), length-append) at (c .before .before .before .pre .1)),
-)
+  put-decimal-requires : lts.Need-put-decimal-requires claims at reads.Post
+  put-decimal-requires c κs = (
+    omega (arith, c .before .before .before .pre .0),
+    omega (arith, simp (decimal-large _ (c .before .if1 .left), length-append) at (c .before .before .before .pre .1)),
+  )
 
-put-decimal-cast-put-byte-2 : (t : ℕ) → put-decimal-lts.Need-cast-put-byte-2 (
-  put-byte-reads.Asked,
-  put-byte-reads.Learnt,
-  put-decimal-below t,
-  put-decimal.Post,
-) (put-decimal-at t) put-decimal.Post
-put-decimal-cast-put-byte-2 t c = search needs
+  cast-put-byte-2 : lts.Need-cast-put-byte-2 claims at reads.Post
+  cast-put-byte-2 c = search needs
 
-put-decimal-add-put-byte-2 : (t : ℕ) → put-decimal-lts.Need-add-put-byte-2 (
-  put-byte-reads.Asked,
-  put-byte-reads.Learnt,
-  put-decimal-below t,
-  put-decimal.Post,
-) (put-decimal-at t) put-decimal.Post
-put-decimal-add-put-byte-2 t c = search needs
+  add-put-byte-2 : lts.Need-add-put-byte-2 claims at reads.Post
+  add-put-byte-2 c = search needs
 
-put-decimal-put-byte-requires-2 : (t : ℕ) → put-decimal-lts.Need-put-byte-requires-2 (
-  put-byte-reads.Asked,
-  put-byte-reads.Learnt,
-  put-decimal-below t,
-  put-decimal.Post,
-) (put-decimal-at t) put-decimal.Post
-put-decimal-put-byte-requires-2 t c κs =
-    omega (arith, simp (decimal-large _ (c .before .before .before .before .before .if1 .left), length-append) at (c .before .before .before .before .before .before .before .pre .1))
+  put-byte-requires-2 : lts.Need-put-byte-requires-2 claims at reads.Post
+  put-byte-requires-2 c κs =
+      omega (arith, simp (decimal-large _ (c .before .before .before .before .before .if1 .left), length-append) at (c .before .before .before .before .before .before .before .pre .1))
 
-put-decimal-same-length-2 : (t : ℕ) → put-decimal-lts.Need-same-length-2 (
-  put-byte-reads.Asked,
-  put-byte-reads.Learnt,
-  put-decimal-below t,
-  put-decimal.Post,
-) (put-decimal-at t) put-decimal.Post
-put-decimal-same-length-2 t c = search needs
+  same-length-2 : lts.Need-same-length-2 claims at reads.Post
+  same-length-2 c = search needs
 
-put-decimal-returns-2 : (t : ℕ) → put-decimal-lts.Need-returns-2 (
-  put-byte-reads.Asked,
-  put-byte-reads.Learnt,
-  put-decimal-below t,
-  put-decimal.Post,
-) (put-decimal-at t) put-decimal.Post
-put-decimal-returns-2 t c =
-    rw (decimal-large _ (c .before .before .before .before .before .before .before .before .if1 .left))
-    (appended-join (omega arith) (c .before .before .before .before .before .before .put-decimal .ensures) (c .before .before .put-byte2 .ensures))
+  returns-2 : lts.Need-returns-2 claims at reads.Post
+  returns-2 c =
+      rw (decimal-large _ (c .before .before .before .before .before .before .before .before .if1 .left))
+      (appended-join (omega arith) (c .before .before .before .before .before .before .put-decimal .ensures) (c .before .before .put-byte2 .ensures))
+
+  closed : {M : Type 1} → lts.Closed claims at reads.Post M
+  closed =
+      lts.spec claims at reads.Post
+      cast-put-byte
+      add-put-byte
+      put-byte-requires
+      same-length
+      returns
+      put-decimal-requires
+      cast-put-byte-2
+      add-put-byte-2
+      put-byte-requires-2
+      same-length-2
+      returns-2
 
 pub +put-decimal-spec : {M : Type 1} → statement M
-+put-decimal-spec = close μ-put-decimal λ t. put-decimal-lts.spec (
-  put-byte-reads.Asked,
-  put-byte-reads.Learnt,
-  put-decimal-below t,
-  put-decimal.Post,
-)
-    (put-decimal-at t)
-    put-decimal.Post
-    (put-decimal-cast-put-byte t)
-    (put-decimal-add-put-byte t)
-    (put-decimal-put-byte-requires t)
-    (put-decimal-same-length t)
-    (put-decimal-returns t)
-    (put-decimal-put-decimal-requires t)
-    (put-decimal-cast-put-byte-2 t)
-    (put-decimal-add-put-byte-2 t)
-    (put-decimal-put-byte-requires-2 t)
-    (put-decimal-same-length-2 t)
-    (put-decimal-returns-2 t)
++put-decimal-spec = close μ (λ t. closed t)
