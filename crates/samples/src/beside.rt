@@ -54,20 +54,18 @@ fn searched(day: Day, releases: &[u16], deadlines: &[u16], best: &mut [u16]) -> 
 
 // Whether pricing, ledger and slot records say of a claimed plan what direct counting says.
 pub(crate) fn claimed(day: Day, releases: &[u16], deadlines: &[u16], starts: &[u16]) -> bool {
-    let expected = direct::judged(day, releases, deadlines, starts);
-    if !same_answer(claim::price(day, releases, deadlines, starts), expected) {
-        return false;
-    }
+    let priced = direct::judged(day, releases, deadlines, starts);
+    let answer = free_of_charge(priced);
     let columns = ledger::ledger(day, releases, deadlines, starts);
-    if !same_answer(columns.answer, free_of_charge(expected)) {
-        return false;
-    }
-    let count = releases.len();
-    if expected.code != code::DONE {
-        return sum(columns.counts) == 0 && slots(day, releases, deadlines, starts, expected);
-    }
-    counted(day, direct::part(starts, count), columns.counts)
-        && slots(day, releases, deadlines, starts, expected)
+    same_answer(claim::price(day, releases, deadlines, starts), priced)
+        && same_answer(columns.answer, answer)
+        && counted(
+            day,
+            direct::part(starts, 0, releases.len()),
+            columns.counts,
+            answer,
+        )
+        && slots(day, releases, deadlines, starts, answer)
 }
 
 // The same answer with no cost.
@@ -84,7 +82,10 @@ fn sum(counts: Counts) -> u16 {
     direct::plus(direct::plus(outside, gaps), counts.job)
 }
 
-fn counted(day: Day, starts: &[u16], counts: Counts) -> bool {
+fn counted(day: Day, starts: &[u16], counts: Counts, answer: Answer) -> bool {
+    if answer.code != code::DONE {
+        return sum(counts) == 0;
+    }
     counts.before == direct::filled(day, starts, direct::BEFORE)
         && counts.job == direct::filled(day, starts, direct::JOB)
         && counts.awake == direct::filled(day, starts, direct::AWAKE)
@@ -92,16 +93,23 @@ fn counted(day: Day, starts: &[u16], counts: Counts) -> bool {
         && counts.after == direct::filled(day, starts, direct::AFTER)
 }
 
-// Whether the records of all slots, and of the one after the day, are what direct counting says under this answer of pricing.
-fn slots(day: Day, releases: &[u16], deadlines: &[u16], starts: &[u16], priced: Answer) -> bool {
+// Whether the records of all slots, and of the one after the day, are what direct counting says under this answer of the ledger.
+fn slots(day: Day, releases: &[u16], deadlines: &[u16], starts: &[u16], answer: Answer) -> bool {
     let mut slot = 0;
     while slot < day.slots {
-        if !one_slot(day, releases, deadlines, starts, priced, slot) {
+        if !one_slot(day, releases, deadlines, starts, answer, slot) {
             return false;
         }
         slot += 1;
     }
-    one_slot(day, releases, deadlines, starts, priced, slot)
+    one_slot(day, releases, deadlines, starts, after_day(answer), slot)
+}
+
+fn after_day(answer: Answer) -> Answer {
+    if answer.code == code::DONE {
+        return direct::names(code::NO_SUCH_SLOT, 0, 0);
+    }
+    answer
 }
 
 fn one_slot(
@@ -109,23 +117,21 @@ fn one_slot(
     releases: &[u16],
     deadlines: &[u16],
     starts: &[u16],
-    priced: Answer,
+    answer: Answer,
     slot: u16,
 ) -> bool {
     let shown = ledger::slot(day, releases, deadlines, starts, slot);
     let record = shown.held;
     let filled_by = record.fill;
     let fill = number(filled_by);
-    if priced.code != code::DONE {
-        return same_answer(shown.answer, priced) && record.slot == 0 && fill == direct::BEFORE;
+    if !same_answer(shown.answer, answer) {
+        return false;
     }
-    if slot >= day.slots {
-        let refused = direct::names(code::NO_SUCH_SLOT, 0, 0);
-        return same_answer(shown.answer, refused) && record.slot == 0 && fill == direct::BEFORE;
+    if answer.code != code::DONE {
+        return record.slot == 0 && fill == direct::BEFORE;
     }
-    let count = releases.len();
-    let expected = direct::fill(day.power, direct::part(starts, count), slot);
-    shown.answer.code == code::DONE && record.slot == slot && fill == expected
+    let claimed = direct::part(starts, 0, releases.len());
+    record.slot == slot && fill == direct::fill(day.power, claimed, slot)
 }
 
 fn number(fill: Fill) -> u16 {

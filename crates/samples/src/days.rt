@@ -2,27 +2,27 @@
 use crate::beside;
 use crate::direct;
 use crate::draw;
-use crate::print;
+use crate::score;
+use crate::score::Score;
 use day::Day;
 use day::Power;
 use day::at_or_zero;
 use day::code;
 use day::wide;
 
-// How many days were compared, how many lists were refused, how many had no plan, and how many showed a difference.
+// The score of the days compared, how many lists were refused, and how many had no plan.
 pub struct Tally {
-    pub days: u64,
+    pub score: Score,
     pub refused: u64,
     pub without: u64,
-    pub differ: u64,
 }
 
 pub(crate) fn none() -> Tally {
+    let score = score::none();
     Tally {
-        days: 0,
+        score,
         refused: 0,
         without: 0,
-        differ: 0,
     }
 }
 
@@ -33,7 +33,7 @@ pub(crate) fn day_of(slots: u16, wake: u16) -> Day {
 
 // The first `count` of five numbers.
 fn first(list: &[u16; 5], count: usize) -> &[u16] {
-    direct::part(list, count)
+    direct::part(list, 0, count)
 }
 
 // Every list of up to 3 jobs in up to 4 slots, for every wake cost up to 4.
@@ -162,26 +162,28 @@ fn compare(
 ) -> Tally {
     let mut best = [beside::UNTOUCHED; 5];
     let planned = beside::plan(day, releases, deadlines, &mut best, table);
-    let key = draw::key(so_far.days);
-    let mut own = [0u16; 5];
-    put_claim(key, day.slots, releases, deadlines, &mut own);
-    let length = wide(draw::below(20, draw::next(key)));
-    let same = planned.same
-        && beside::claimed(day, releases, deadlines, first(&own, length))
-        && beside::claimed(day, releases, deadlines, &best)
-        && beside::chosen(day, releases, deadlines, first(&own, length), &best);
-    if !same && so_far.differ == 0 {
-        print::day(day, releases, deadlines);
-    }
+    let key = draw::key(so_far.score.run);
+    let same = planned.same && same_claims(key, day, releases, deadlines, &best);
     added(so_far, planned.answer.code, same)
 }
 
+// Compares a claim that is drawn, the best plan as a claim, and the choice between the two.
+fn same_claims(key: u64, day: Day, releases: &[u16], deadlines: &[u16], best: &[u16; 5]) -> bool {
+    let mut own = [0u16; 5];
+    put_claim(key, day.slots, releases, deadlines, &mut own);
+    let length = wide(draw::below(20, draw::next(key)));
+    let drawn = first(&own, length);
+    beside::claimed(day, releases, deadlines, drawn)
+        && beside::claimed(day, releases, deadlines, best)
+        && beside::chosen(day, releases, deadlines, drawn, best)
+}
+
 fn added(so_far: Tally, code: u16, same: bool) -> Tally {
+    let score = score::scored(so_far.score, same);
     Tally {
-        days: draw::next(so_far.days),
+        score,
         refused: counted(so_far.refused, code == code::BAD_ROW),
         without: counted(so_far.without, code == code::NO_PLAN),
-        differ: counted(so_far.differ, !same),
     }
 }
 

@@ -29,12 +29,17 @@ pub(crate) fn plus(a: u16, b: u16) -> u16 {
     30000
 }
 
-// The first `count` numbers of a list; all of it where there are fewer.
-pub(crate) fn part(list: &[u16], count: usize) -> &[u16] {
-    if count < list.len() {
-        return &list[..count];
+// The numbers of a list from one place to another; as many of them as there are.
+pub(crate) fn part(list: &[u16], from: usize, to: usize) -> &[u16] {
+    if from <= to {
+        if to <= list.len() {
+            return &list[from..to];
+        }
     }
-    list
+    if from <= list.len() {
+        return &list[from..];
+    }
+    &list[..0]
 }
 
 // A row as an answer counts it, from 1.
@@ -71,14 +76,22 @@ fn outside(releases: &[u16], deadlines: &[u16], starts: &[u16]) -> u16 {
     0
 }
 
+// The first row from a place on that starts at a slot, counted from 1; 0 where none does.
+fn row_at(starts: &[u16], from: usize, slot: u16) -> u16 {
+    let mut row = from;
+    while row < starts.len() {
+        if starts[row] == slot {
+            return from_one(row);
+        }
+        row += 1;
+    }
+    0
+}
+
 // The first row after `row` with the same start, counted from 1; 0 where there is none.
 fn partner(starts: &[u16], row: usize) -> u16 {
-    let mut other = 0;
-    while other < starts.len() {
-        if other > row && at_or_zero(starts, other) == at_or_zero(starts, row) {
-            return from_one(other);
-        }
-        other += 1;
+    if row < starts.len() {
+        return row_at(starts, row + 1, starts[row]);
     }
     0
 }
@@ -88,18 +101,6 @@ pub(crate) fn clash(starts: &[u16]) -> u16 {
     let mut row = 0;
     while row < starts.len() {
         if partner(starts, row) != 0 {
-            return from_one(row);
-        }
-        row += 1;
-    }
-    0
-}
-
-// The row that starts at a slot, counted from 1; 0 where none does.
-fn row_at(starts: &[u16], slot: u16) -> u16 {
-    let mut row = 0;
-    while row < starts.len() {
-        if starts[row] == slot {
             return from_one(row);
         }
         row += 1;
@@ -166,7 +167,7 @@ pub(crate) fn cost(power: Power, starts: &[u16]) -> u16 {
 
 // What fills a slot.
 pub(crate) fn fill(power: Power, starts: &[u16], slot: u16) -> u16 {
-    let row = row_at(starts, slot);
+    let row = row_at(starts, 0, slot);
     if row > 0 {
         return plus(JOB, row);
     }
@@ -216,7 +217,7 @@ pub(crate) fn judged(day: Day, releases: &[u16], deadlines: &[u16], starts: &[u1
     if starts.len() < count {
         return names(code::FEW_STARTS, 0, 0);
     }
-    let claimed = part(starts, count);
+    let claimed = part(starts, 0, count);
     let out = outside(releases, deadlines, claimed);
     if out > 0 {
         return names(code::OUTSIDE_WINDOW, out, 0);

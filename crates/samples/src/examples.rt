@@ -1,780 +1,256 @@
-// Examples of document 01 that are not proved of the definitions: limits, refusals, slips, and the program's answers to files.
+// Examples of document 01 that are not proved of the definitions: limits, refusals, slips, and the program's answers to files. They are read from
+// standard input; the file `stdin` has them, and says what stands in a line.
 use crate::beside;
 use crate::days;
 use crate::direct;
-use crate::draw;
+use crate::score;
+use crate::score::Score;
 use day::Answer;
+use day::Day;
+use day::at_or_zero;
 use day::wide;
-ghost use mathlib.Core.Path.{_≡_};
-ghost use lib.ListN.{length};
-
-// How many examples were run, how many went wrong, and the first of those.
-pub struct Score {
-    pub run: u64,
-    pub wrong: u64,
-    pub first: u64,
-}
-
-// A row for each day: slots, wake, number of jobs, three windows, and then the planner's code and first number, and three starts.
-const DAYS: [u16; 196] = [
-    0,
-    5,
-    0,
-    0,
-    0,
-    0,
-    0,
-    0,
-    0,
-    1,
-    0,
-    9999,
-    9999,
-    9999, // no slots
-    97,
-    5,
-    0,
-    0,
-    0,
-    0,
-    0,
-    0,
-    0,
-    1,
-    0,
-    9999,
-    9999,
-    9999, // too many slots
-    96,
-    5,
-    0,
-    0,
-    0,
-    0,
-    0,
-    0,
-    0,
-    0,
-    0,
-    9999,
-    9999,
-    9999, // the most slots, and no L taken off
-    96,
-    1000,
-    1,
-    95,
-    96,
-    0,
-    0,
-    0,
-    0,
-    0,
-    0,
-    95,
-    9999,
-    9999, // the last slot of the longest day
-    10,
-    1001,
-    0,
-    0,
-    0,
-    0,
-    0,
-    0,
-    0,
-    2,
-    0,
-    9999,
-    9999,
-    9999, // too much for a wake
-    0,
-    1001,
-    1,
-    3,
-    3,
-    0,
-    0,
-    0,
-    0,
-    1,
-    0,
-    9999,
-    9999,
-    9999, // 1 before 2 and 4
-    5,
-    3,
-    1,
-    3,
-    3,
-    0,
-    0,
-    0,
-    0,
-    4,
-    1,
-    9999,
-    9999,
-    9999, // an empty window
-    5,
-    3,
-    2,
-    0,
-    1,
-    0,
-    6,
-    0,
-    0,
-    4,
-    2,
-    9999,
-    9999,
-    9999, // a deadline after the day
-    5,
-    3,
-    3,
-    0,
-    1,
-    4,
-    2,
-    0,
-    9,
-    4,
-    2,
-    9999,
-    9999,
-    9999, // the first of two bad rows
-    1,
-    1,
-    2,
-    0,
-    1,
-    0,
-    1,
-    0,
-    0,
-    7,
-    0,
-    9999,
-    9999,
-    9999, // the source's recursion would find a plan
-    6,
-    3,
-    2,
-    0,
-    6,
-    4,
-    6,
-    0,
-    0,
-    0,
-    0,
-    4,
-    5,
-    9999, // as early as possible would cost 3
-    10,
-    3,
-    3,
-    0,
-    1,
-    2,
-    8,
-    9,
-    10,
-    0,
-    4,
-    0,
-    7,
-    9, // each start of row 2 leaves two gaps
-    96,
-    1000,
-    2,
-    0,
-    1,
-    95,
-    96,
-    0,
-    0,
-    0,
-    94,
-    0,
-    95,
-    9999, // the longest gap
-    96,
-    0,
-    2,
-    0,
-    1,
-    95,
-    96,
-    0,
-    0,
-    0,
-    0,
-    0,
-    95,
-    9999, // waking for nothing
-];
-
-// A row for each claimed plan of three jobs: slots, wake, three windows, three starts, and then the code and two numbers of pricing.
-const CLAIMS: [u16; 154] = [
-    10,
-    3,
-    0,
-    1,
-    2,
-    8,
-    9,
-    10,
-    0,
-    2,
-    9,
-    0,
-    4,
-    0, // costs run from 4 to 6
-    10,
-    3,
-    0,
-    1,
-    2,
-    8,
-    9,
-    10,
-    0,
-    3,
-    9,
-    0,
-    5,
-    0,
-    10,
-    3,
-    0,
-    1,
-    2,
-    8,
-    9,
-    10,
-    0,
-    4,
-    9,
-    0,
-    6,
-    0,
-    10,
-    3,
-    0,
-    1,
-    2,
-    8,
-    9,
-    10,
-    0,
-    5,
-    9,
-    0,
-    6,
-    0,
-    10,
-    3,
-    0,
-    1,
-    2,
-    8,
-    9,
-    10,
-    0,
-    6,
-    9,
-    0,
-    5,
-    0,
-    10,
-    3,
-    0,
-    1,
-    2,
-    8,
-    9,
-    10,
-    0,
-    7,
-    9,
-    0,
-    4,
-    0,
-    5,
-    2,
-    0,
-    4,
-    0,
-    4,
-    0,
-    4,
-    1,
-    1,
-    4,
-    14,
-    3,
-    0, // 14 over all rows before 15
-    5,
-    2,
-    0,
-    4,
-    0,
-    4,
-    0,
-    4,
-    65535,
-    1,
-    1,
-    14,
-    1,
-    0,
-    5,
-    2,
-    0,
-    4,
-    0,
-    4,
-    0,
-    4,
-    3,
-    2,
-    3,
-    15,
-    1,
-    3, // the lowest row and its lowest partner
-    5,
-    2,
-    0,
-    4,
-    0,
-    4,
-    0,
-    4,
-    2,
-    2,
-    2,
-    15,
-    1,
-    2,
-    5,
-    2,
-    0,
-    4,
-    0,
-    4,
-    0,
-    4,
-    1,
-    3,
-    3,
-    15,
-    2,
-    3,
-];
-
-// A row for each file: the first and the last byte kept of P8's file, two changes of a byte, each its place and value, and then the code and
-// first number of planning it.
-const FILES: [u16; 112] = [
-    0,
-    22,
-    0,
-    0,
-    0,
-    0,
-    0,
-    4, // P8
-    12,
-    22,
-    12,
-    0,
-    18,
-    10,
-    0,
-    0, // no jobs
-    13,
-    22,
-    0,
-    0,
-    0,
-    0,
-    8,
-    0, // nine bytes
-    0,
-    22,
-    20,
-    81,
-    0,
-    0,
-    9,
-    0,
-    0,
-    22,
-    21,
-    0,
-    12,
-    41,
-    9,
-    0, // 9 before 3
-    0,
-    22,
-    12,
-    41,
-    18,
-    174,
-    3,
-    0,
-    0,
-    22,
-    12,
-    2,
-    0,
-    0,
-    10,
-    0,
-    0,
-    22,
-    12,
-    4,
-    18,
-    26,
-    11,
-    0,
-    0,
-    22,
-    14,
-    0,
-    0,
-    0,
-    1,
-    0,
-    0,
-    22,
-    14,
-    97,
-    4,
-    8,
-    1,
-    0, // 1 before 4
-    0,
-    22,
-    16,
-    233,
-    0,
-    0,
-    0,
-    7, // awake in both gaps
-    0,
-    22,
-    17,
-    4,
-    0,
-    0,
-    2,
-    0,
-    0,
-    22,
-    4,
-    8,
-    0,
-    0,
-    4,
-    2,
-    0,
-    22,
-    14,
-    96,
-    0,
-    0,
-    6,
-    0, // four times 99 times 99 places
-];
-
-fn of_days(row: usize, column: usize) -> u16 {
-    if row < 196 {
-        if column < 196 - row {
-            return DAYS[row + column];
-        }
-    }
-    0
-}
-
-fn of_claims(row: usize, column: usize) -> u16 {
-    if row < 154 {
-        if column < 154 - row {
-            return CLAIMS[row + column];
-        }
-    }
-    0
-}
-
-fn of_files(row: usize, column: usize) -> u16 {
-    if row < 112 {
-        if column < 112 - row {
-            return FILES[row + column];
-        }
-    }
-    0
-}
+use libc::STDIN_FILENO;
 
 // Runs every example.
 pub(crate) fn run(table: &mut [u16]) -> Score {
-    let none = Score {
-        run: 0,
-        wrong: 0,
-        first: 0,
-    };
-    let days = run_days(none, table);
-    let claims = run_claims(days);
-    let files = run_files(claims, table);
-    let limits = run_limits(files, table);
-    run_texts(limits, table)
+    let mut text = io::large_buffer();
+    let length = io::read_full(STDIN_FILENO, &mut text);
+    run_lines(part(&text, 0, length), table)
 }
 
-fn scored(score: Score, right: bool) -> Score {
-    let run = draw::next(score.run);
-    if right {
-        return Score {
-            run,
-            wrong: score.wrong,
-            first: score.first,
-        };
-    }
-    if score.wrong == 0 {
-        return Score {
-            run,
-            wrong: 1,
-            first: run,
-        };
-    }
-    Score {
-        run,
-        wrong: draw::next(score.wrong),
-        first: score.first,
-    }
-}
-
-fn run_days(so_far: Score, table: &mut [u16]) -> Score {
-    let mut score = so_far;
-    let mut row = 0;
-    while row < 196 {
-        score = scored(score, is_planned(row, table));
-        row += 14;
+fn run_lines(text: &[u8], table: &mut [u16]) -> Score {
+    let mut score = score::none();
+    let mut place = 0;
+    while place < text.len() {
+        score = after_line(score, line_before(text, place), table);
+        place += 1;
     }
     score
 }
 
-fn is_planned(row: usize, table: &mut [u16]) -> bool {
-    let day = days::day_of(of_days(row, 0), of_days(row, 1));
-    let count = wide(of_days(row, 2));
-    let releases = [of_days(row, 3), of_days(row, 5), of_days(row, 7)];
-    let deadlines = [of_days(row, 4), of_days(row, 6), of_days(row, 8)];
-    let mut starts = [beside::UNTOUCHED; 3];
-    let answer = planner::plan(
-        day,
-        direct::part(&releases, count),
-        direct::part(&deadlines, count),
-        &mut starts,
-        table,
-    );
-    let expected = direct::names(of_days(row, 9), of_days(row, 10), 0);
-    let plan = [of_days(row, 11), of_days(row, 12), of_days(row, 13)];
-    beside::same_answer(answer, expected) && beside::same_numbers(&starts, &plan)
-}
-
-fn run_claims(so_far: Score) -> Score {
-    let mut score = so_far;
-    let mut row = 0;
-    while row < 154 {
-        score = scored(score, is_priced(row));
-        row += 14;
+// The line that ends at a place; none where the byte there ends no line.
+fn line_before(text: &[u8], place: usize) -> &[u8] {
+    if byte_at(text, place) != b'\n' {
+        return part(text, 0, 0);
     }
-    score
-}
-
-fn is_priced(row: usize) -> bool {
-    let day = days::day_of(of_claims(row, 0), of_claims(row, 1));
-    let releases = [of_claims(row, 2), of_claims(row, 4), of_claims(row, 6)];
-    let deadlines = [of_claims(row, 3), of_claims(row, 5), of_claims(row, 7)];
-    let starts = [of_claims(row, 8), of_claims(row, 9), of_claims(row, 10)];
-    let answer = claim::price(day, &releases, &deadlines, &starts);
-    let expected = direct::names(of_claims(row, 11), of_claims(row, 12), of_claims(row, 13));
-    beside::same_answer(answer, expected)
-}
-
-// P8's file, with L 3 and without notes.
-fn example_file() -> [u8; 22]
-    ensures { λ bytes. ⌜ 22 ≡ length bytes ⌝ }
-{
-    [
-        0,
-        0,
-        1,
-        0,
-        2,
-        0,
-        8,
-        0,
-        9,
-        0,
-        10,
-        0,
-        3,
-        0,
-        10,
-        0,
-        3,
-        0,
-        22,
-        0,
-        80,
-        76,
-    ]
-}
-
-fn run_files(so_far: Score, table: &mut [u16]) -> Score {
-    let mut score = so_far;
-    let mut row = 0;
-    while row < 112 {
-        score = scored(score, is_read(row, table));
-        row += 8;
-    }
-    score
-}
-
-fn is_read(row: usize, table: &mut [u16]) -> bool {
-    let mut file = example_file();
-    change(&mut file, of_files(row, 2), of_files(row, 3));
-    change(&mut file, of_files(row, 4), of_files(row, 5));
-    let kept = bytes_between(&file, wide(of_files(row, 0)), wide(of_files(row, 1)));
-    let mut starts = [0u16; 3];
-    let outcome = report::plan_file(kept, &mut starts, table);
-    let expected = direct::names(of_files(row, 6), of_files(row, 7), 0);
-    beside::same_answer(outcome.answer, expected)
-}
-
-// Changes a byte, if there is such a place.
-fn change(file: &mut [u8], place: u16, value: u16) {
-    let at = wide(place);
-    if at < file.len() {
-        if value < 256 {
-            file[at] = value as u8;
+    let mut from = place;
+    while from > 0 {
+        if byte_at(text, from - 1) == b'\n' {
+            return part(text, from, place);
         }
+        from -= 1;
     }
+    part(text, 0, place)
+}
+
+// The score after a line; a line that is empty or starts with `#` is no example.
+fn after_line(score: Score, line: &[u8], table: &mut [u16]) -> Score {
+    let kind = byte_at(line, 0);
+    if kind == 0 || kind == b'#' {
+        return score;
+    }
+    score::scored(score, is_right(kind, line, table))
+}
+
+fn is_right(kind: u8, line: &[u8], table: &mut [u16]) -> bool {
+    let end = colon(line);
+    let mut list = [0u16; 96];
+    let count = put_numbers(part(line, 0, end), &mut list);
+    agrees(kind, numbers_of(&list, count), words(line, end), table)
+}
+
+fn agrees(kind: u8, numbers: &[u16], words: &[u8], table: &mut [u16]) -> bool {
+    if kind == b'p' {
+        return is_planned(numbers, table);
+    }
+    if kind == b'c' {
+        return is_priced(numbers);
+    }
+    is_printed(numbers, words, table)
 }
 
 // The bytes from one place to another; none where there are no such places.
-fn bytes_between(file: &[u8], from: usize, to: usize) -> &[u8] {
-    if to <= file.len() {
+fn part(bytes: &[u8], from: usize, to: usize) -> &[u8] {
+    if to <= bytes.len() {
         if from <= to {
-            return &file[from..to];
+            return &bytes[from..to];
         }
     }
-    &file[..0]
+    &bytes[..0]
 }
 
-// Codes 3, 5 and 6, for which a list, a plan or a table has to have a length of its own.
-fn run_limits(so_far: Score, table: &mut [u16]) -> Score {
-    let many = scored(so_far, refuses_many(table));
-    let few = scored(many, refuses_few(table));
-    let short = scored(few, refuses_short());
-    scored(short, takes_enough())
+fn byte_at(bytes: &[u8], place: usize) -> u8 {
+    if place < bytes.len() {
+        return bytes[place];
+    }
+    0
 }
 
-fn refuses_many(table: &mut [u16]) -> bool {
-    let releases = [0u16; 41];
-    let deadlines = [1u16; 41];
-    let mut starts = [0u16; 41];
-    let day = days::day_of(1, 5);
-    is(
-        planner::plan(day, &releases, &deadlines, &mut starts, table),
-        3,
+// The place of the first colon; the line's end where there is none.
+fn colon(line: &[u8]) -> usize {
+    let mut place = 0;
+    while place < line.len() {
+        if line[place] == b':' {
+            return place;
+        }
+        place += 1;
+    }
+    place
+}
+
+// What stands after a colon and a blank.
+fn words(line: &[u8], colon: usize) -> &[u8] {
+    if colon < line.len() {
+        let from = colon + 1;
+        if from < line.len() {
+            return &line[from + 1..];
+        }
+    }
+    &line[..0]
+}
+
+// Puts the numbers of a line, each of which has a blank before it, at the places from 1 on, and gives how many there are.
+fn put_numbers(line: &[u8], numbers: &mut [u16; 96]) -> u16 {
+    let mut count = 0;
+    let mut place = 0;
+    while place < line.len() {
+        if line[place] == b' ' {
+            count = direct::plus(count, 1);
+        }
+        put_digit(wide(count), line[place], numbers);
+        place += 1;
+    }
+    count
+}
+
+fn put_digit(place: usize, byte: u8, numbers: &mut [u16; 96]) {
+    if place < 96 {
+        numbers[place] = with_digit(numbers[place], byte);
+    }
+}
+
+// A number with one digit more, if the byte is one.
+fn with_digit(number: u16, byte: u8) -> u16 {
+    if byte < b'0' || byte > b'9' {
+        return number;
+    }
+    let value = (number as u32) * 10 + ((byte - b'0') as u32);
+    (value % 65536) as u16
+}
+
+fn numbers_of(list: &[u16; 96], count: u16) -> &[u16] {
+    direct::part(list, 1, 1 + wide(count))
+}
+
+fn day_in(numbers: &[u16]) -> Day {
+    days::day_of(at_or_zero(numbers, 1), at_or_zero(numbers, 2))
+}
+
+fn answer_in(numbers: &[u16]) -> Answer {
+    direct::names(
+        at_or_zero(numbers, 4),
+        at_or_zero(numbers, 5),
+        at_or_zero(numbers, 6),
     )
 }
 
-fn refuses_few(table: &mut [u16]) -> bool {
-    let releases = [0u16, 1];
-    let deadlines = [1u16, 2];
-    let mut starts = [0u16; 1];
-    let day = days::day_of(2, 5);
-    is(
-        planner::plan(day, &releases, &deadlines, &mut starts, table),
-        5,
-    )
+fn releases_in(numbers: &[u16]) -> &[u16] {
+    let count = wide(at_or_zero(numbers, 0));
+    direct::part(numbers, 7, 7 + count)
 }
 
-fn refuses_short() -> bool {
-    let mut table = [0u16; 15];
-    is(plan_nothing(&mut table), 6)
+fn deadlines_in(numbers: &[u16]) -> &[u16] {
+    let count = wide(at_or_zero(numbers, 0));
+    direct::part(numbers, 7 + count, 7 + 2 * count)
 }
 
-fn takes_enough() -> bool {
-    let mut table = [0u16; 16];
-    is(plan_nothing(&mut table), 0)
+fn starts_in(numbers: &[u16]) -> &[u16] {
+    let count = wide(at_or_zero(numbers, 0));
+    direct::part(numbers, 7 + 2 * count, numbers.len())
 }
 
-// No jobs in one slot.
-fn plan_nothing(table: &mut [u16]) -> Answer {
-    let none = [0u16; 0];
-    let mut starts = [0u16; 0];
-    planner::plan(days::day_of(1, 5), &none, &none, &mut starts, table)
+// Plans with as many places for starts as the line has, and in a table with as many as it says.
+fn is_planned(numbers: &[u16], table: &mut [u16]) -> bool {
+    let mut starts = [beside::UNTOUCHED; 96];
+    let room = starts_in(numbers).len();
+    let places = wide(at_or_zero(numbers, 3));
+    if room > 96 {
+        return false;
+    }
+    if places > table.len() {
+        return false;
+    }
+    gives(numbers, &mut starts[..room], &mut table[..places])
 }
 
-fn is(answer: Answer, code: u16) -> bool {
-    beside::same_answer(answer, direct::names(code, 0, 0))
-}
-
-fn input() -> [u8; 4097]
-    ensures { λ bytes. ⌜ 4097 ≡ length bytes ⌝ }
-{
-    [0; 4097]
-}
-
-// What the program prints: for a file after as many notes as there may be, and with one byte of notes more.
-fn run_texts(so_far: Score, table: &mut [u16]) -> Score {
-    let mut bytes = input();
-    let file = example_file();
-    put_last(&file, &mut bytes);
-    let longest = prints(
-        bytes_between(&bytes, 1, 4097),
-        b"plan 0 4\n1 0\n2 7\n3 9\nslots 0 3 1 6 0\n",
+fn gives(numbers: &[u16], starts: &mut [u16], table: &mut [u16]) -> bool {
+    let answer = planner::plan(
+        day_in(numbers),
+        releases_in(numbers),
+        deadlines_in(numbers),
+        starts,
         table,
     );
-    let too_long = prints(&bytes, b"plan 17 0\n", table);
-    let empty = prints(&bytes[..0], b"plan 8 0\n", table);
-    scored(scored(scored(so_far, longest), too_long), empty)
+    beside::same_answer(answer, answer_in(numbers))
+        && beside::same_numbers(starts, starts_in(numbers))
 }
 
-// Puts a file at the end of the bytes.
-fn put_last(file: &[u8], bytes: &mut [u8]) {
-    if bytes.len() < file.len() {
-        return;
-    }
-    let from = bytes.len() - file.len();
-    let mut i = 0;
-    while i < file.len() {
-        bytes[from + i] = file[i];
+fn is_priced(numbers: &[u16]) -> bool {
+    let answer = claim::price(
+        day_in(numbers),
+        releases_in(numbers),
+        deadlines_in(numbers),
+        starts_in(numbers),
+    );
+    beside::same_answer(answer, answer_in(numbers))
+}
+
+// Whether the program prints this text.
+fn is_printed(numbers: &[u16], expected: &[u8], table: &mut [u16]) -> bool {
+    let mut file = [0u8; 4200];
+    let length = put_file(numbers, &mut file);
+    let text = report::report(written(&file, length), table);
+    let bytes = text.bytes;
+    text.len == expected.len() && shows(&bytes, expected)
+}
+
+fn written(file: &[u8; 4200], length: usize) -> &[u8] {
+    part(file, 0, length)
+}
+
+// Puts a file after its notes, and gives its length.
+fn put_file(numbers: &[u16], file: &mut [u8; 4200]) -> usize {
+    let mut end = wide(at_or_zero(numbers, 0));
+    let mut i = 1;
+    while i < numbers.len() {
+        if end >= 4200 {
+            return end;
+        }
+        file[end] = (numbers[i] % 256) as u8;
+        end += 1;
         i += 1;
     }
+    end
 }
 
-fn prints(file: &[u8], expected: &[u8], table: &mut [u16]) -> bool {
-    let text = report::report(file, table);
-    let bytes = text.bytes;
-    text.len == expected.len() && has(&bytes, expected)
-}
-
-// Whether the bytes start with those expected.
-fn has(bytes: &[u8], expected: &[u8]) -> bool {
+// Whether the bytes start with those expected, where `/` stands for the end of a line.
+fn shows(bytes: &[u8], expected: &[u8]) -> bool {
     if bytes.len() < expected.len() {
         return false;
     }
     let mut i = 0;
     while i < expected.len() {
-        if bytes[i] != expected[i] {
+        if bytes[i] != printed(expected[i]) {
             return false;
         }
         i += 1;
     }
     true
+}
+
+fn printed(byte: u8) -> u8 {
+    if byte == b'/' {
+        return b'\n';
+    }
+    byte
 }

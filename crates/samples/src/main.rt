@@ -5,7 +5,7 @@ mod days;
 mod direct;
 mod draw;
 mod examples;
-mod print;
+mod score;
 mod slow;
 
 ghost use mathlib.Core.Path.{_≡_};
@@ -20,16 +20,10 @@ fn table() -> [u16; 30625]
 
 fn main() {
     let mut places = table();
-    let examples = examples::run(&mut places);
-    print::line(b"examples ", examples.run);
-    print::line(b"wrong ", examples.wrong);
-    if examples.wrong > 0 {
-        print::line(b"first wrong example ", examples.first);
-    }
+    score::print(b"examples ", examples::run(&mut places));
     let small = days::all_small(days::none(), &mut places);
     let all = days::random(small, &mut places);
-    print::line(b"days compared ", all.days);
-    print::line(b"refused ", all.refused);
-    print::line(b"without a plan ", all.without);
-    print::line(b"differences ", all.differ);
+    score::print(b"days compared ", all.score);
+    score::line(b"refused ", all.refused);
+    score::line(b"without a plan ", all.without);
 }

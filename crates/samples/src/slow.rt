@@ -22,6 +22,7 @@ pub(crate) fn search(
         any: false,
         cost: 0,
     };
+    // More turns than there are start vectors, so that the end is plain.
     let mut turns = u64::MAX;
     while turns > 0 {
         found = weigh(found, power, deadlines, starts, best);
@@ -68,48 +69,22 @@ fn step(releases: &[u16], deadlines: &[u16], starts: &mut [u16]) -> bool {
     false
 }
 
-// Whether the highest-numbered job on which the two plans differ starts later in the first.
+// Whether the highest-numbered job on which the two plans differ starts later in the first: of the rows that differ the one with the latest
+// deadline, of equal deadlines the last.
 fn is_later(deadlines: &[u16], starts: &[u16], others: &[u16]) -> bool {
-    let mut number = deadlines.len();
-    while number > 0 {
-        let row = row_numbered(deadlines, number);
-        if at_or_zero(starts, row) != at_or_zero(others, row) {
-            return at_or_zero(starts, row) > at_or_zero(others, row);
-        }
-        number -= 1;
-    }
-    false
-}
-
-fn row_numbered(deadlines: &[u16], number: usize) -> usize {
+    let mut later = false;
+    let mut latest = 0;
     let mut row = 0;
     while row < deadlines.len() {
-        if day::wide(number_of(deadlines, row)) == number {
-            return row;
+        let here = at_or_zero(starts, row);
+        let there = at_or_zero(others, row);
+        if here != there && deadlines[row] >= latest {
+            latest = deadlines[row];
+            later = here > there;
         }
         row += 1;
     }
-    row
-}
-
-// The number of a row, counted from 1: one more than the rows that come before it.
-fn number_of(deadlines: &[u16], row: usize) -> u16 {
-    let mut number = 1;
-    let mut other = 0;
-    while other < deadlines.len() {
-        if comes_before(deadlines, other, row) {
-            number = direct::plus(number, 1);
-        }
-        other += 1;
-    }
-    number
-}
-
-// An earlier deadline, or the same and an earlier row.
-fn comes_before(deadlines: &[u16], row: usize, other: usize) -> bool {
-    let here = at_or_zero(deadlines, row);
-    let there = at_or_zero(deadlines, other);
-    here < there || here == there && row < other
+    later
 }
 
 // Fills the first places.

@@ -5,10 +5,10 @@ use Rattle.samples.proofs.beside.slots.Statement.{statement}
 use Rattle.samples.proofs.beside.slots.Tie as tie
 
 abbrev Inv-loop : tie.InvT-loop
-Inv-loop day releases deadlines starts priced slot₀ slot = slot ≤ day .slots
+Inv-loop day releases deadlines starts answer slot₀ slot = slot ≤ day .slots
 
 abbrev μ-loop : tie.MeasureT-loop
-μ-loop day releases deadlines starts priced slot₀ slot = day .slots - slot
+μ-loop day releases deadlines starts answer slot₀ slot = day .slots - slot
 
 loop-holds : tie.Need-loop-holds Inv-loop μ-loop
 loop-holds c = search needs
@@ -28,6 +28,9 @@ loop-less c = search needs
 loop-again : tie.Need-loop-again Inv-loop μ-loop
 loop-again c = search needs
 
+after-day-requires : tie.Need-after-day-requires Inv-loop μ-loop
+after-day-requires c κs = search needs
+
 one-slot-requires-2 : tie.Need-one-slot-requires-2 Inv-loop μ-loop
 one-slot-requires-2 c κs = search needs
 
@@ -46,5 +49,6 @@ slots-spec =
     add-slot
     loop-less
     loop-again
+    after-day-requires
     one-slot-requires-2
     returns-2)

@@ -1,15 +1,15 @@
 -- `samples::direct::row_at` is safe and ends. Assumes nothing.
 use borrow.Author.Needs.{needs}
-use Prim.Native.Nat.{_-_, _≤_}
+use Prim.Native.Nat.{_+_, _-_, _≤_}
 use lib.ListN.{length}
 use Rattle.samples.proofs.direct.row_at.Statement.{statement}
 use Rattle.samples.proofs.direct.row_at.Tie as tie
 
 abbrev Inv-loop : tie.InvT-loop
-Inv-loop starts slot row₀ row = row ≤ length starts
+Inv-loop starts from slot row₀ row = row ≤ from + length starts
 
 abbrev μ-loop : tie.MeasureT-loop
-μ-loop starts slot row₀ row = length starts - row
+μ-loop starts from slot row₀ row = length starts - row
 
 loop-holds : tie.Need-loop-holds Inv-loop μ-loop
 loop-holds c = search needs

@@ -1,9 +1,9 @@
--- `samples::examples::has` is safe and ends. Assumes nothing.
+-- `samples::examples::shows` is safe and ends. Assumes nothing.
 use borrow.Author.Needs.{needs}
 use Prim.Native.Nat.{_-_, _≤_}
 use lib.ListN.{length}
-use Rattle.samples.proofs.examples.has.Statement.{statement}
-use Rattle.samples.proofs.examples.has.Tie as tie
+use Rattle.samples.proofs.examples.shows.Statement.{statement}
+use Rattle.samples.proofs.examples.shows.Tie as tie
 
 abbrev Inv-loop : tie.InvT-loop
 Inv-loop bytes expected i₀ i = i ≤ length expected
@@ -20,8 +20,11 @@ loop-holds c = search needs
 shared-slice-read-if2 : tie.Need-shared-slice-read-if2 Inv-loop μ-loop
 shared-slice-read-if2 c = search needs
 
-shared-slice-read-if2-2 : tie.Need-shared-slice-read-if2-2 Inv-loop μ-loop
-shared-slice-read-if2-2 c = search needs
+shared-slice-read-printed : tie.Need-shared-slice-read-printed Inv-loop μ-loop
+shared-slice-read-printed c = search needs
+
+printed-requires : tie.Need-printed-requires Inv-loop μ-loop
+printed-requires c κs = search needs
 
 returns-2 : tie.Need-returns-2 Inv-loop μ-loop
 returns-2 c = search needs
@@ -38,8 +41,8 @@ loop-again c = search needs
 returns-3 : tie.Need-returns-3 Inv-loop μ-loop
 returns-3 c = search needs
 
-pub has-spec : {M : Type 1} → statement M
-has-spec =
+pub shows-spec : {M : Type 1} → statement M
+shows-spec =
     tie.close
     (tie.spec
     Inv-loop
@@ -47,7 +50,8 @@ has-spec =
     returns
     loop-holds
     shared-slice-read-if2
-    shared-slice-read-if2-2
+    shared-slice-read-printed
+    printed-requires
     returns-2
     add-i
     loop-less
