@@ -11,41 +11,17 @@ Inv-loop starts slot since₀ row₀ since row = row ≤ length starts
 abbrev μ-loop : tie.MeasureT-loop
 μ-loop starts slot since₀ row₀ since row = length starts - row
 
-loop-holds : tie.Need-loop-holds Inv-loop μ-loop
-loop-holds c = search needs
-
-mul-plus : tie.Need-mul-plus Inv-loop μ-loop
-mul-plus c = search needs
-
-shared-slice-read-plus : tie.Need-shared-slice-read-plus Inv-loop μ-loop
-shared-slice-read-plus c = search needs
-
-plus-requires : tie.Need-plus-requires Inv-loop μ-loop
-plus-requires c κs = search needs
-
-add-row : tie.Need-add-row Inv-loop μ-loop
-add-row c = search needs
-
-loop-less : tie.Need-loop-less Inv-loop μ-loop
-loop-less c = search needs
-
-loop-again : tie.Need-loop-again Inv-loop μ-loop
-loop-again c = search needs
-
-returns : tie.Need-returns Inv-loop μ-loop
-returns c = search needs
-
 pub free-since-spec : {M : Type 1} → statement M
 free-since-spec =
     tie.close
     (tie.spec
     Inv-loop
     μ-loop
-    loop-holds
-    mul-plus
-    shared-slice-read-plus
-    plus-requires
-    add-row
-    loop-less
-    loop-again
-    returns)
+    (λ c. search needs)
+    (λ c. search needs)
+    (λ c. search needs)
+    (λ c κs. search needs)
+    (λ c. search needs)
+    (λ c. search needs)
+    (λ c. search needs)
+    (λ c. search needs))
