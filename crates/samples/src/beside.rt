@@ -55,7 +55,7 @@ fn searched(day: Day, releases: &[u16], deadlines: &[u16], best: &mut [u16]) -> 
 // Whether pricing, ledger and slot records say of a claimed plan what direct counting says.
 pub(crate) fn claimed(day: Day, releases: &[u16], deadlines: &[u16], starts: &[u16]) -> bool {
     let priced = direct::judged(day, releases, deadlines, starts);
-    let answer = free_of_charge(priced);
+    let answer = where_done(priced, code::DONE);
     let columns = ledger::ledger(day, releases, deadlines, starts);
     same_answer(claim::price(day, releases, deadlines, starts), priced)
         && same_answer(columns.answer, answer)
@@ -68,10 +68,10 @@ pub(crate) fn claimed(day: Day, releases: &[u16], deadlines: &[u16], starts: &[u
         && slots(day, releases, deadlines, starts, answer)
 }
 
-// The same answer with no cost.
-fn free_of_charge(answer: Answer) -> Answer {
+// The answer, but with this code and no numbers where it is done.
+fn where_done(answer: Answer, code: u16) -> Answer {
     if answer.code == code::DONE {
-        return direct::names(code::DONE, 0, 0);
+        return direct::names(code, 0, 0);
     }
     answer
 }
@@ -102,14 +102,8 @@ fn slots(day: Day, releases: &[u16], deadlines: &[u16], starts: &[u16], answer: 
         }
         slot += 1;
     }
-    one_slot(day, releases, deadlines, starts, after_day(answer), slot)
-}
-
-fn after_day(answer: Answer) -> Answer {
-    if answer.code == code::DONE {
-        return direct::names(code::NO_SUCH_SLOT, 0, 0);
-    }
-    answer
+    let after = where_done(answer, code::NO_SUCH_SLOT);
+    one_slot(day, releases, deadlines, starts, after, slot)
 }
 
 fn one_slot(
