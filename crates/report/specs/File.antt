@@ -64,7 +64,7 @@ RowsReported day w starts table = Reported (PlanCheck day w starts table) day w 
 abbrev pub FileReported : List ℕ → List ℕ → List ℕ → Outcome → List ℕ → List ℕ → Type 0
 FileReported file starts table = Reported (FilePlanCheck file starts table) (day-of file) (windows-of file) starts table
 
--- the text for a file, of which the starts are shown: at first 0 in 40 places
+-- the text for a file: what planning it into 40 places that hold 0 gives, in lines
 pub record FilePrinted (file table : List ℕ) (text : Text) (table′ : List ℕ) : Type 0 where
   pub outcome : Outcome
   pub starts : List ℕ
