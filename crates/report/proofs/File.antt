@@ -133,7 +133,7 @@ module _ (file starts table : List ℕ) where
       input-refused a (past (λ l. omega arith) (record { reads = p; refused = d })) d (reader-not-no-plan file most-jobs p)
 
   -- of a file that is read, the rows are planned
-  pub file-read : {o : Outcome} {p t : List ℕ} (a : Answer) → length file ≤ most-bytes → FileCheck file most-jobs a → a .code ≡ done
+  file-read : {o : Outcome} {p t : List ℕ} (a : Answer) → length file ≤ most-bytes → FileCheck file most-jobs a → a .code ≡ done
       → RowsReported (day-of file) (windows-of file) starts table o p t → FileReported file starts table o p t
   file-read a h p d =
       checked-reported

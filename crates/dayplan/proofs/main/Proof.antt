@@ -15,27 +15,20 @@ slice-aggregate-read-full c = search needs
 read-full-requires : tie.Need-read-full-requires
 read-full-requires c κs = search needs
 
-table-requires : tie.Need-table-requires
-table-requires c κs = search needs
-
 array-share-prefix-file : tie.Need-array-share-prefix-file
 array-share-prefix-file c = search needs
 
-slice-aggregate-report : tie.Need-slice-aggregate-report
-slice-aggregate-report c = search needs
+slice-aggregate-printed : tie.Need-slice-aggregate-printed
+slice-aggregate-printed c = search needs
 
-slice-aggregate-report-2 : tie.Need-slice-aggregate-report-2
-slice-aggregate-report-2 c = search needs
-
-report-requires : tie.Need-report-requires
-report-requires c κs = search needs
+printed-requires : tie.Need-printed-requires
+printed-requires c κs = search needs
 
 array-share-prefix-bytes : tie.Need-array-share-prefix-bytes
-array-share-prefix-bytes c = prints-within (c .before .before .report .ensures .prints)
+array-share-prefix-bytes c = prints-within (c .before .printed .ensures .planned .prints)
 
 slice-aggregate-write-all : tie.Need-slice-aggregate-write-all
-slice-aggregate-write-all c =
-    sym (length-take-le _ _ (prints-within (c .before .before .before .report .ensures .prints)))
+slice-aggregate-write-all c = sym (length-take-le _ _ (prints-within (c .before .before .printed .ensures .planned .prints)))
 
 write-all-requires : tie.Need-write-all-requires
 write-all-requires c κs = search needs
@@ -50,11 +43,9 @@ main-spec =
     input-requires
     slice-aggregate-read-full
     read-full-requires
-    table-requires
     array-share-prefix-file
-    slice-aggregate-report
-    slice-aggregate-report-2
-    report-requires
+    slice-aggregate-printed
+    printed-requires
     array-share-prefix-bytes
     slice-aggregate-write-all
     write-all-requires

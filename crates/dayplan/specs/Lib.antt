@@ -1,0 +1,2 @@
+-- What the program prints of what it reads.
+pub mod Program
