@@ -35,9 +35,9 @@ pub(crate) fn part(list: &[u16], from: usize, to: usize) -> &[u16] {
         if to <= list.len() {
             return &list[from..to];
         }
-    }
-    if from <= list.len() {
-        return &list[from..];
+        if from <= list.len() {
+            return &list[from..];
+        }
     }
     &list[..0]
 }
