@@ -15,13 +15,17 @@ array-borrow-prefix-releases : tie.Need-array-borrow-prefix-releases
 array-borrow-prefix-releases c = put-few (c .before .before .args .room) 41 (c .rows-put .result) (c .rows-put .ensures)
 
 slice-aggregate-read : tie.Need-slice-aggregate-read
-slice-aggregate-read c = sym (length-take-le (c .before .rows-put .result) zeros (put-few (c .before .before .before .args .room) 41 (c .before .rows-put .result) (c .before .rows-put .ensures)))
+slice-aggregate-read c =
+    let put : _ = c .before .rows-put in
+    sym (length-take-le (put .result) zeros (put-few (c .before .before .before .args .room) 41 (put .result) (put .ensures)))
 
 array-borrow-prefix-deadlines : tie.Need-array-borrow-prefix-deadlines
 array-borrow-prefix-deadlines c = put-few (c .before .before .before .args .room) 41 (c .before .rows-put .result) (c .before .rows-put .ensures)
 
 slice-aggregate-read-2 : tie.Need-slice-aggregate-read-2
-slice-aggregate-read-2 c = sym (length-take-le (c .before .before .rows-put .result) zeros (put-few (c .before .before .before .before .args .room) 41 (c .before .before .rows-put .result) (c .before .before .rows-put .ensures)))
+slice-aggregate-read-2 c =
+    let put : _ = c .before .before .rows-put in
+    sym (length-take-le (put .result) zeros (put-few (c .before .before .before .before .args .room) 41 (put .result) (put .ensures)))
 
 read-requires : tie.Need-read-requires
 read-requires c κs = search needs
@@ -31,8 +35,10 @@ wide-requires c κs = search needs
 
 returns : tie.Need-returns
 returns c =
+    let put : _ = c .before .before .before .before .before .before in
+    let read : _ = c .before .before .before .read in
     record {
-      read = read-columns (c .before .before .before .before .before .before .before .before .args .room) (c .before .before .before .before .before .before .rows-put .ensures) (c .before .before .before .read .kept .1 .0) (c .before .before .before .read .kept .1 .1 .0) (c .before .before .before .read .ensures);
+      read = read-columns (put .before .before .args .room) (put .rows-put .ensures) (read .kept .1 .0) (read .kept .1 .1 .0) (read .ensures);
       count = c .wide .ensures .0;
     }
 
