@@ -94,8 +94,7 @@ module _ {M : Type 1} (𝓤 : URA M) (H : Heap 𝓤) (𝓜 : Model 𝓤 H) (𝓖
           use0 W (raw Asked) asked $ move ! (1 ∷ 0 ∷ []) $ join ! $ use1 W (raw (C g (u ∷ v ∷ es) G)) (met v) $
           by ! (frames 𝓤 H 𝓜 𝓖 𝓡 env g (u ∷ v ∷ es) G (λ w. H .⇛ (guard 𝓤 (Typed τ w) (K w))) (A .lft (κs .0) (qs .0)) leaves)))
 
-  module _ (sp : (κs : Lfts (suc n)) → Spells (typesAt ss κs)) (tl : (κs : Lfts (suc n)) → Tellss (typesAt ss κs) (Ises (typesAt ss κs)) (sp κs)) (c : Clauses 𝓤 T) (fn : Fn) (g : Name)
-      (φ : (κs : Lfts (suc n)) (a : Args (T .signature) κs) → Res (T .signature) κs → Lasts T κs a → SProp 𝓤) where
+  module _ (sp : (κs : Lfts (suc n)) → Spells (typesAt ss κs)) (g : Name) (φ : (κs : Lfts (suc n)) (a : Args (T .signature) κs) → Res (T .signature) κs → Lasts T κs a → SProp 𝓤) where
     -- the machine values of the day, of the list and of what comes after it
     abbrev day : (κs : Lfts (suc n)) → Args (T .signature) κs → Val
     day κs a = LL.val D.the-type D′.the-laws (a .0)
@@ -107,31 +106,32 @@ module _ {M : Type 1} (𝓤 : URA M) (H : Heap 𝓤) (𝓜 : Model 𝓤 H) (𝓖
     after κs a = flat (typesAt ss κs) (valss (typesAt ss κs) (sp κs) (a .1 .1))
 
     -- g, on the rows of the list, promises φ
-    abbrev Promises : Type 1
+    abbrev pub Promises : Type 1
     Promises = (κs : Lfts (suc n)) (qs : Shares n) (a : Args (T .signature) κs) (v : Val)
         → ent 𝓤 (sep 𝓤 (sep 𝓤 (toks 𝓤 A n (κs .1) qs) (sem 𝓤 H A (owns (D.the-row ∷ S ∷ typesAt ss κs) (a .0, (rows-of (now (a .1 .0)), a .1 .1)) (day κs a ∷ [], (v ∷ [], valss (typesAt ss κs) (sp κs) (a .1 .1)))))) (fact 𝓤 (Placed (rows-of (now (a .1 .0))))))
         (C g (day κs a ∷ v ∷ after κs a) (Left κs a (φ κs a) (toks 𝓤 A n (κs .1) qs)))
 
-    -- the entry point's MIR runs `copy_out` and then g
-    abbrev Runs : Type 2
-    Runs = (κs : Lfts (suc n)) (a : Args (T .signature) κs) (K : Val → SProp 𝓤) → Typed D′.mir (day κs a) → Typed listTy (list κs a) → Are (typesAt ss κs) (Ises (typesAt ss κs)) (a .1 .1) (valss (typesAt ss κs) (sp κs) (a .1 .1))
-        → ent 𝓤 (gets 𝓤 H C #copy-out (list κs a ∷ []) rowsTy (λ v. gets 𝓤 H C g (day κs a ∷ v ∷ after κs a) τ K)) (WpFn 𝓤 H C (loops 𝓤 H 𝓜 𝓖 𝓡 env) fn (day κs a ∷ list κs a ∷ after κs a) K)
+    module _ (tl : (κs : Lfts (suc n)) → Tellss (typesAt ss κs) (Ises (typesAt ss κs)) (sp κs)) (c : Clauses 𝓤 T) (fn : Fn) where
+      -- the entry point's MIR runs `copy_out` and then g
+      abbrev Runs : Type 2
+      Runs = (κs : Lfts (suc n)) (a : Args (T .signature) κs) (K : Val → SProp 𝓤) → Typed D′.mir (day κs a) → Typed listTy (list κs a) → Are (typesAt ss κs) (Ises (typesAt ss κs)) (a .1 .1) (valss (typesAt ss κs) (sp κs) (a .1 .1))
+          → ent 𝓤 (gets 𝓤 H C #copy-out (list κs a ∷ []) rowsTy (λ v. gets 𝓤 H C g (day κs a ∷ v ∷ after κs a) τ K)) (WpFn 𝓤 H C (loops 𝓤 H 𝓜 𝓖 𝓡 env) fn (day κs a ∷ list κs a ∷ after κs a) K)
 
-    meets : Promises → Runs → ((κs : Lfts (suc n)) (r : Res (T .signature) κs) (w : Val) → Is (X .row κs) r (w ∷ []) → Typed τ w)
-        → ((κs : Lfts (suc n)) (a : Args (T .signature) κs) (y : c κs a .ghost) (r : Res (T .signature) κs) (ws : Lasts T κs a) → ent 𝓤 (φ κs a r ws) (c κs a .ensures y r (atExit T κs a ws)))
-        → Meets 𝓤 H A (T .signature) (WpFn 𝓤 H C (loops 𝓤 H 𝓜 𝓖 𝓡 env) fn) (closing 𝓤 H A T c)
-    meets met runs typed gives ((κs, qs, bounds, a, vss), y) =
-        via 𝓤 (onEntry 𝓤 H A (T .signature) κs qs a vss) (fst∗ 𝓤 (onEntry 𝓤 H A (T .signature) κs qs a vss) (c κs a .requires y))
-        (said 𝓤 H A (T .signature) κs qs (LL.vals D.the-type D′.the-laws, (slice-vals, sp κs)) (LL.tells D.the-type D′.the-laws, (shr-slice-tells (named 0) (κs .0) R, tl κs)) a
-        (λ us. WpFn 𝓤 H C (loops 𝓤 H 𝓜 𝓖 𝓡 env) fn (flat (typesAt (T .signature .params) κs) us) (tripleOf 𝓤 H A (T .signature) (closing 𝓤 H A T c) .post ((κs, qs, bounds, a, us), y))) vss (λ are.
-        via 𝓤 _ (both κs a qs (φ κs a) (λ r ws. c κs a .ensures y r (atExit T κs a ws))
-        (sem 𝓤 H A (D.the-row .own (a .0) (day κs a ∷ []))) (sem 𝓤 H A (owns (typesAt ss κs) (a .1 .1) (valss (typesAt ss κs) (sp κs) (a .1 .1)))) (fact 𝓤 (Placed (rows-of (now (a .1 .0))))) (day κs a) (after κs a) g
-        (Left κs a (φ κs a) (toks 𝓤 A n (κs .1) (qs .1))) (Left κs a (λ r ws. c κs a .ensures y r (atExit T κs a ws)) (sep 𝓤 (A .lft (κs .0) (qs .0)) (toks 𝓤 A n (κs .1) (qs .1))))
-        (factI 𝓤 (Placed (rows-of (now (a .1 .0)))) (emp 𝓤) (rows-placed (now (a .1 .0)))) (met κs (qs .1) a) (answers κs a qs (φ κs a) (λ r ws. c κs a .ensures y r (atExit T κs a ws)) (typed κs) (gives κs a y)))
-        (runs κs a _ (LL.lawful D.the-type D′.the-laws 𝓤 H A W .typed (a .0) _ (are .0) .0) (shr-slice-lawful 𝓤 H A W (named 0) (κs .0) R .typed (a .1 .0) _ (are .1 .0) .0) (are .1 .1))))
+      meets : Promises → Runs → ((κs : Lfts (suc n)) (r : Res (T .signature) κs) (w : Val) → Is (X .row κs) r (w ∷ []) → Typed τ w)
+          → ((κs : Lfts (suc n)) (a : Args (T .signature) κs) (y : c κs a .ghost) (r : Res (T .signature) κs) (ws : Lasts T κs a) → ent 𝓤 (φ κs a r ws) (c κs a .ensures y r (atExit T κs a ws)))
+          → Meets 𝓤 H A (T .signature) (WpFn 𝓤 H C (loops 𝓤 H 𝓜 𝓖 𝓡 env) fn) (closing 𝓤 H A T c)
+      meets met runs typed gives ((κs, qs, bounds, a, vss), y) =
+          via 𝓤 (onEntry 𝓤 H A (T .signature) κs qs a vss) (fst∗ 𝓤 (onEntry 𝓤 H A (T .signature) κs qs a vss) (c κs a .requires y))
+          (said 𝓤 H A (T .signature) κs qs (LL.vals D.the-type D′.the-laws, (slice-vals, sp κs)) (LL.tells D.the-type D′.the-laws, (shr-slice-tells (named 0) (κs .0) R, tl κs)) a
+          (λ us. WpFn 𝓤 H C (loops 𝓤 H 𝓜 𝓖 𝓡 env) fn (flat (typesAt (T .signature .params) κs) us) (tripleOf 𝓤 H A (T .signature) (closing 𝓤 H A T c) .post ((κs, qs, bounds, a, us), y))) vss (λ are.
+          via 𝓤 _ (both κs a qs (φ κs a) (λ r ws. c κs a .ensures y r (atExit T κs a ws))
+          (sem 𝓤 H A (D.the-row .own (a .0) (day κs a ∷ []))) (sem 𝓤 H A (owns (typesAt ss κs) (a .1 .1) (valss (typesAt ss κs) (sp κs) (a .1 .1)))) (fact 𝓤 (Placed (rows-of (now (a .1 .0))))) (day κs a) (after κs a) g
+          (Left κs a (φ κs a) (toks 𝓤 A n (κs .1) (qs .1))) (Left κs a (λ r ws. c κs a .ensures y r (atExit T κs a ws)) (sep 𝓤 (A .lft (κs .0) (qs .0)) (toks 𝓤 A n (κs .1) (qs .1))))
+          (factI 𝓤 (Placed (rows-of (now (a .1 .0)))) (emp 𝓤) (rows-placed (now (a .1 .0)))) (met κs (qs .1) a) (answers κs a qs (φ κs a) (λ r ws. c κs a .ensures y r (atExit T κs a ws)) (typed κs) (gives κs a y)))
+          (runs κs a _ (LL.lawful D.the-type D′.the-laws 𝓤 H A W .typed (a .0) _ (are .0) .0) (shr-slice-lawful 𝓤 H A W (named 0) (κs .0) R .typed (a .1 .0) _ (are .1 .0) .0) (are .1 .1))))
 
-    -- so the entry point meets its contract, where φ gives what that contract says
-    pub hands-on : (f : Name) → Closed 𝓤 H C (loops 𝓤 H 𝓜 𝓖 𝓡 env) f fn → Promises → Runs → ((κs : Lfts (suc n)) (r : Res (T .signature) κs) (w : Val) → Is (X .row κs) r (w ∷ []) → Typed τ w)
-        → ((κs : Lfts (suc n)) (a : Args (T .signature) κs) (y : c κs a .ghost) (r : Res (T .signature) κs) (ws : Lasts T κs a) → ent 𝓤 (φ κs a r ws) (c κs a .ensures y r (atExit T κs a ws)))
-        → Meets 𝓤 H A (T .signature) (C f) (closing 𝓤 H A T c)
-    hands-on f closed met runs typed gives = entered 𝓤 H (tripleOf 𝓤 H A (T .signature) (closing 𝓤 H A T c)) C (loops 𝓤 H 𝓜 𝓖 𝓡 env) f fn closed (meets met runs typed gives)
+      -- so the entry point meets its contract, where φ gives what that contract says
+      pub hands-on : (f : Name) → Closed 𝓤 H C (loops 𝓤 H 𝓜 𝓖 𝓡 env) f fn → Promises → Runs → ((κs : Lfts (suc n)) (r : Res (T .signature) κs) (w : Val) → Is (X .row κs) r (w ∷ []) → Typed τ w)
+          → ((κs : Lfts (suc n)) (a : Args (T .signature) κs) (y : c κs a .ghost) (r : Res (T .signature) κs) (ws : Lasts T κs a) → ent 𝓤 (φ κs a r ws) (c κs a .ensures y r (atExit T κs a ws)))
+          → Meets 𝓤 H A (T .signature) (C f) (closing 𝓤 H A T c)
+      hands-on f closed met runs typed gives = entered 𝓤 H (tripleOf 𝓤 H A (T .signature) (closing 𝓤 H A T c)) C (loops 𝓤 H 𝓜 𝓖 𝓡 env) f fn closed (meets met runs typed gives)
