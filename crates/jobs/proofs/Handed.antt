@@ -19,7 +19,7 @@ use contract.Running.{Running, GhostRules}
 use types.Kit.{Given, ‵, raw, some, later, _⊛_, _$_, _∵_, !, qed, by, move, use0, use1, group, split, split3, join, pick, frame, await, updating, now as at-once, check, show, done}
 use denote.RattleType.{flat, owns}
 use denote.Laws.{Is, Ises, Are, Spells, Tellss, valss, shows}
-use denote.Ref.{ptr, now}
+use denote.Ref.{RefT, ptr, now}
 use denote.Slice.{sliceVal, ShrSlice, slice-vals, shr-slice-tells, shr-slice-lawful}
 use denote.Steps.{peeks, said}
 use denote.Struct.Laws as LL
@@ -29,8 +29,11 @@ use denote.Triple.End.{Kepts}
 use denote.Triple.Entry.{Args, Res, onEntry}
 use denote.Triple.Spec.{Meets, tripleOf}
 use denote.Triple.Table.{entered}
+use Rattle.day.specs.declared.Day.{Day}
+use Rattle.day.specs.declared.Job.{Job}
 use Rattle.day.proofs.Day as D
 use Rattle.day.proofs.Day.Laws as D′
+use Rattle.jobs.specs.declared.rows.Rows.{Rows}
 use Rattle.jobs.specs.Rows.{rows-of, Placed}
 use Rattle.jobs.proofs.Copied.{rows-placed}
 use Rattle.jobs.proofs.Setting.{R, S, rowsTy, listTy, rules, calls, loops, frames}
@@ -45,6 +48,10 @@ Dayᴾ = plain (λ _. D.the-row)
 
 abbrev Listᴾ : {n : ℕ} → Slot (suc n)
 Listᴾ = shrSlice 0 tt (λ _. R)
+
+-- arguments with the rows of the list in its place
+abbrev pub on-rows : {X : Type 0} → Day × (RefT (List Job) × X) → Day × (Rows × X)
+on-rows a = (a .0, (rows-of (now (a .1 .0)), a .1 .1))
 
 -- an entry point over a day and a lent list, with further parameters ss, and a function g over the day, the rows and the further parameters
 module _ {M : Type 1} (𝓤 : URA M) (H : Heap 𝓤) (𝓜 : Model 𝓤 H) (𝓖 : GhostRules 𝓤 H) (𝓡 : Running 𝓤 H 𝓜) (env : Env) (means : env #copy-out ≡ copy-out-def.routine)
@@ -108,7 +115,7 @@ module _ {M : Type 1} (𝓤 : URA M) (H : Heap 𝓤) (𝓜 : Model 𝓤 H) (𝓖
     -- g, on the rows of the list, promises φ
     abbrev pub Promises : Type 1
     Promises = (κs : Lfts (suc n)) (qs : Shares n) (a : Args (T .signature) κs) (v : Val)
-        → ent 𝓤 (sep 𝓤 (sep 𝓤 (toks 𝓤 A n (κs .1) qs) (sem 𝓤 H A (owns (D.the-row ∷ S ∷ typesAt ss κs) (a .0, (rows-of (now (a .1 .0)), a .1 .1)) (day κs a ∷ [], (v ∷ [], valss (typesAt ss κs) (sp κs) (a .1 .1)))))) (fact 𝓤 (Placed (rows-of (now (a .1 .0))))))
+        → ent 𝓤 (sep 𝓤 (sep 𝓤 (toks 𝓤 A n (κs .1) qs) (sem 𝓤 H A (owns (D.the-row ∷ S ∷ typesAt ss κs) (on-rows a) (day κs a ∷ [], (v ∷ [], valss (typesAt ss κs) (sp κs) (a .1 .1)))))) (fact 𝓤 (Placed (rows-of (now (a .1 .0))))))
         (C g (day κs a ∷ v ∷ after κs a) (Left κs a (φ κs a) (toks 𝓤 A n (κs .1) qs)))
 
     module _ (tl : (κs : Lfts (suc n)) → Tellss (typesAt ss κs) (Ises (typesAt ss κs)) (sp κs)) (c : Clauses 𝓤 T) (fn : Fn) where

@@ -22,11 +22,10 @@ use Rattle.day.proofs.Day as D
 use Rattle.day.proofs.Day.Laws as D′
 use Rattle.jobs.proofs.numbers.SlotNumbers as N
 use Rattle.jobs.proofs.numbers.SlotNumbers.Laws as N′
-use Rattle.jobs.specs.Rows.{rows-of}
 use Rattle.jobs.proofs.Promises.{list-numbered}
 use Rattle.jobs.proofs.Setting.{rules, calls, loops, frames}
 use Rattle.jobs.proofs.Runs.{runs-four}
-use Rattle.jobs.proofs.Handed.{Promises, hands-on}
+use Rattle.jobs.proofs.Handed.{on-rows, Promises, hands-on}
 use Rattle.jobs.proofs.rows.copy_out.Symbol.{name as #copy-out}
 use Rattle.jobs.proofs.by_value.slot_numbers as g
 use Rattle.jobs.proofs.by_value.slot_numbers.Symbol as g-def
@@ -40,13 +39,13 @@ use Rattle.jobs.proofs.chaskuri_slot.Code as code
 module _ {M : Type 1} (𝓤 : URA M) (H : Heap 𝓤) (𝓜 : Model 𝓤 H) (𝓖 : GhostRules 𝓤 H) (𝓡 : Running 𝓤 H 𝓜) where
   -- what the function over rows promises, on the rows of the list
   abbrev Said : (κs : Lfts 2) (a : Args f.signature κs) → Res f.signature κs → Lasts f.ended κs a → SProp 𝓤
-  Said κs a r ws = g.clauses 𝓤 H (𝓖 .A) (𝓜 .mem) (𝓡 .run) (κs .1) (a .0, (rows-of (now (a .1 .0)), a .1 .1)) .ensures tt r (atExit g.ended (κs .1) (a .0, (rows-of (now (a .1 .0)), a .1 .1)) ws)
+  Said κs a r ws = g.clauses 𝓤 H (𝓖 .A) (𝓜 .mem) (𝓡 .run) (κs .1) (on-rows a) .ensures tt r (atExit g.ended (κs .1) (on-rows a) ws)
 
   promised : Promises 𝓤 H 𝓜 𝓖 𝓡 code.env code.calls-jobs·rows·copy-out 1 [] (shrSlice 1 tt (λ _. u16) ∷ plain (λ _. u16) ∷ []) (plain (λ _. N.the-row)) (f.ended .kept) N′.mir
       (λ κs. (slice-vals, (uint-vals w16, tt))) #g Said
   promised κs qs a v =
       cited 𝓤 H (tripleOf 𝓤 H (𝓖 .A) g.signature (g.spec 𝓤 H (𝓖 .A) (𝓜 .mem) (𝓡 .run))) 𝓜 𝓡 code.env #g g-def.routine code.calls-jobs·by-value·slot-numbers (g-thm.met 𝓤 H 𝓜 𝓖 𝓡)
-      ((κs .1, qs, tt, (a .0, (rows-of (now (a .1 .0)), a .1 .1)), (LL.vals D.the-type D′.the-laws (a .0), (v ∷ [], (slice-vals (a .1 .1 .0), (uint-vals w16 (a .1 .1 .1 .0), tt))))), tt)
+      ((κs .1, qs, tt, on-rows a, (LL.vals D.the-type D′.the-laws (a .0), (v ∷ [], (slice-vals (a .1 .1 .0), (uint-vals w16 (a .1 .1 .1 .0), tt))))), tt)
 
 pub chaskuri-slot-spec : {M : Type 1} → stated.statement M
 unfolding code.routine
