@@ -1,23 +1,21 @@
 -- A moved list is accepted, keeps code and cost, and its starts move along. Assumes nothing.
 use Prim.Native.Nat.{ℕ, _≤_, _<_}
-use mathlib.Core.Path.{_≡_, sym, _∙_, ap}
+use mathlib.Core.Path.{sym, _∙_, ap}
 use mathlib.Core.Logic.{inl, inr}
 use native.Mathlib.Omega.{arith}
-use lib.IntN.{ℤ, pos}
+use lib.IntN.{ℤ}
 use Rattle.day.specs.Windows.{at}
 use Rattle.day.specs.Answer.{says, done}
-use Rattle.day.specs.Change.{Shifts, Moved}
+use Rattle.day.specs.Change.{Moved}
 use Rattle.day.specs.Check.{Accepted}
 use Rattle.day.proofs.Cases.{give}
 use Rattle.day.proofs.Moved.{moved-no-plan, no-plan-moved, moved-starts, moved-best-cost}
 use Rattle.moving.proofs.Moving.{acceptable}
+use Rattle.moving.proofs.Unique.{shifts-unique}
 use Rattle.demands.specs.Run.{Run, list, Served}
 use Rattle.demands.specs.BestPlan.{BestOrNone}
 use Rattle.demands.specs.Moving.{Moves, MovedAccepted, MovedAnswer, MovingKeeps}
 use Rattle.demands.proofs.BestPlan.{accepted-too, best-or-none, none-code, given-on}
-
-shifted-same : (by : ℤ) (x y z : ℕ) → Shifts by x y → Shifts by x z → y ≡ z
-shifted-same by x y z p q = let same : pos y ≡ pos z = sym p ∙ q in cc
 
 module _ (by : ℤ) (run other : Run) (moves : Moves by run other) where
   moved : Moved by (list run) (list other)
@@ -34,8 +32,8 @@ module _ (by : ℤ) (run other : Run) (moves : Moves by run other) where
         arith,
         s .order,
         s .inside,
-        shifted-same by (list run .release i) (s .begin) (list other .release i) (s .release-moved) (moved .release i h),
-        shifted-same by (list run .deadline i) (s .end) (list other .deadline i) (s .deadline-moved) (moved .deadline i h),
+        shifts-unique by (list run .release i) (s .begin) (list other .release i) (s .release-moved) (moved .release i h),
+        shifts-unique by (list run .deadline i) (s .end) (list other .deadline i) (s .deadline-moved) (moved .deadline i h),
       )))
 
   accepted-there : Accepted (run .day) (list run) → Accepted (run .day) (list other)

@@ -12,7 +12,7 @@ use Rattle.day.specs.declared.Day.{Day}
 use Rattle.day.specs.declared.Job.{Job}
 use Rattle.day.specs.Windows.{Windows, windows}
 use Rattle.day.specs.Answer.{done, no-plan}
-use Rattle.day.specs.Refusal.{_then_, stops}
+use Rattle.day.specs.Refusal.{_then_}
 use Rattle.day.specs.Check.{most-jobs, ListCheck}
 use Rattle.day.proofs.Cases.{on-le}
 use Rattle.day.proofs.Check.{list-is-check}

@@ -22,7 +22,7 @@ use Rattle.moving.specs.Steps.{FirstMoved}
 use Rattle.moving.proofs.Moving.{move-is-check}
 use Rattle.moving.proofs.Ends.{late-stays}
 
-shifts-unique : (by : ℤ) (x y z : ℕ) → Shifts by x y → Shifts by x z → y ≡ z
+pub shifts-unique : (by : ℤ) (x y z : ℕ) → Shifts by x y → Shifts by x z → y ≡ z
 shifts-unique by x y z p q = let same : pos y ≡ pos z = sym p ∙ q in cc
 
 -- past the end of the releases there is nothing to move
