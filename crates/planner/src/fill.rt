@@ -114,7 +114,7 @@ fn sum_rows(day: Day, rel: &[u16], dead: &[u16], lowest: &[u16], job: usize, tab
     }
 }
 
-// Fills the level of the lowest `job + 1` jobs. In spans that begin after the release of `job` it isn't, so the level below has the values.
+// Fills the level of the lowest `job + 1` jobs. A span that begins after the release of `job` has the value of the level below.
 fn fill_level(day: Day, rel: &[u16], dead: &[u16], lowest: &[u16], job: usize, table: &mut [u16])
     requires { ⌜ Fillable day (now rel) (now dead) (now lowest) (now table) job ⌝ }
     ensures { λ _. ⌜ Rows (day .slots) (job + 1) 0 (day .slots + 3) (value (jobs day (now (rel .entry)) (now (dead .entry))) (job + 1)) (now (table .entry)) (now (table .exit)) ⌝ }

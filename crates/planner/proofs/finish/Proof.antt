@@ -7,9 +7,26 @@ use denote.Ref.{now}
 use Rattle.day.specs.Answer.{says, done}
 use Rattle.rule.specs.Whole.{without-ends}
 use borrow.Author.Needs.{needs}
+use Rattle.planner.specs.Finished.{whole-value}
 use Rattle.planner.proofs.Finished.{whole-read, whole-readable, whole-cleared, laid-of}
 use Rattle.planner.proofs.finish.Statement.{statement}
 use Rattle.planner.proofs.finish.Tie as tie
+
+-- once the whole day's value is read
+module _ (c : tie.After-value-at) where
+  abbrev start : tie.Start
+  start = c .before .before .before .before .before .before .before .before .before .before .before .before .before .before
+
+  abbrev n : ℕ
+  n = length (now (start .args .order))
+
+  end : c .before .before .before .before .before .before .before .wide .result + 2 ≡ start .args .day .slots + 2
+  end = omega (arith, c .before .before .before .before .before .before .before .wide .ensures)
+
+  value-read : c .value-at .result ≡ whole-value (start .args .day) (now (start .args .rel)) (now (start .args .dead)) n
+  value-read =
+      whole-read (start .args .day) (now (start .args .rel)) (now (start .args .dead)) n _ end (now (start .args .table)) _
+      (c .before .before .before .before .fill .ensures) (c .value-at .result) (c .value-at .ensures)
 
 wide-requires : tie.Need-wide-requires
 wide-requires c κs = search needs
@@ -37,18 +54,13 @@ same-length c = search needs
 
 returns : tie.Need-returns
 returns c =
-    let a = c .before .before .before .before .before .before .before .before .before .before .before .before .before .before .before .before .before .before .before .before .args in
-    let end : c .before .before .before .before .before .before .before .before .before .before .before .before .before .wide .result + 2 ≡ a .day .slots + 2 = omega arith in
-    let v = whole-read (a .day) (now (a .rel)) (now (a .dead)) (length (now (a .order))) _ end (now (a .table)) _
-    (c .before .before .before .before .before .before .before .before .before .before .fill .ensures)
-    (c .before .before .before .before .before .before .value-at .result)
-    (c .before .before .before .before .before .before .value-at .ensures) in
+    let v = c .before .before .before .before .before .before in
+    let a = start v .args in
     record {
-      found = λ h. absurd (omega arith);
+      found = λ h. absurd (omega (arith, value-read v));
       not-found = λ h. (c .of .ensures, refl);
-      cleared = whole-cleared (a .day) (now (a .rel)) (now (a .dead)) (length (now (a .order))) _ end (now (a .table)) _
-          (c .before .before .before .before .before .before .before .before .before .before .fill .ensures) _ _
-          (c .before .before .before .before .before .before .before .before .before .before .before .before .need-of .ensures)
+      cleared = whole-cleared (a .day) (now (a .rel)) (now (a .dead)) (n v) _ (end v) (now (a .table)) _
+          (v .before .before .before .before .fill .ensures) _ _ (v .before .before .before .before .before .before .need-of .ensures)
           (c .before .before .before .zero-first .ensures);
     }
 
@@ -57,17 +69,12 @@ slice-aggregate-read-back c = search needs
 
 read-back-requires : tie.Need-read-back-requires
 read-back-requires c κs =
-    let start =
-    c .before .before .before .before .before .before .before .before .before .before .before .before .before .before .before .before .before in
-    let a = start .args in
-    let end : c .before .before .before .before .before .before .before .before .before .before .wide .result + 2 ≡ a .day .slots + 2 = omega arith in
-    let v = whole-read (a .day) (now (a .rel)) (now (a .dead)) (length (now (a .order))) _ end (now (a .table)) _
-    (c .before .before .before .before .before .before .before .fill .ensures) (c .before .before .before .value-at .result)
-    (c .before .before .before .value-at .ensures) in (
-      whole-readable (a .day) (now (a .rel)) (now (a .dead)) (length (now (a .order))) _ end (now (a .table)) _
-          (c .before .before .before .before .before .before .before .fill .ensures) (now (a .lowest)) (start .pre .0)
-          (start .pre .1 .0) (omega arith),
-      omega (arith, start .pre .0 .few),
+    let v = c .before .before .before in
+    let a = start v .args in (
+      whole-readable (a .day) (now (a .rel)) (now (a .dead)) (n v) _ (end v) (now (a .table)) _
+          (v .before .before .before .before .fill .ensures) (now (a .lowest)) (start v .pre .0) (start v .pre .1 .0)
+          (omega (arith, value-read v)),
+      omega (arith, start v .pre .0 .few),
     )
 
 slice-aggregate-write-out : tie.Need-slice-aggregate-write-out
@@ -80,10 +87,7 @@ zero-first-requires-2 : tie.Need-zero-first-requires-2
 zero-first-requires-2 c κs = search needs
 
 without-ends-requires : tie.Need-without-ends-requires
-without-ends-requires c κs = omega (
-  arith,
-  c .before .before .before .before .before .before .before .before .before .before .before .before .before .before .before .before .before .before .before .before .before .before .before .before .before .before .before .before .pre .0 .wake,
-)
+without-ends-requires c κs = start (c .before .before .before .before .before .before .before .before .before .before .before .before .before .before) .pre .0 .wake
 
 same-length-2 : tie.Need-same-length-2
 same-length-2 c = search needs
@@ -93,28 +97,18 @@ same-length-3 c = search needs
 
 returns-2 : tie.Need-returns-2
 returns-2 c =
-    let start =
-    c .before .before .before .before .before .before .before .before .before .before .before .before .before .before .before .before .before .before .before .before .before .before .before .before .before .before .before .before .before in
-    let a = start .args in
-    let n = length (now (a .order)) in
-    let end : c .before .before .before .before .before .before .before .before .before .before .before .before .before .before .before .before .before .before .before .before .before .before .wide .result + 2 ≡ a .day .slots + 2 = omega (arith, c .before .before .before .before .before .before .before .before .before .before .before .before .before .before .before .before .before .before .before .before .before .before .wide .ensures) in
-    let v = whole-read (a .day) (now (a .rel)) (now (a .dead)) n _ end (now (a .table)) _
-    (c .before .before .before .before .before .before .before .before .before .before .before .before .before .before .before .before .before .before .before .fill .ensures) (c .before .before .before .before .before .before .before .before .before .before .before .before .before .before .before .value-at .result) (c .before .before .before .before .before .before .before .before .before .before .before .before .before .before .before .value-at .ensures) in
+    let v = c .before .before .before .before .before .before .before .before .before .before .before .before .before .before .before in
+    let a = start v .args in
     record {
       found = λ h. (
-        ap (λ (x : ℕ). says done x 0) (c .without-ends .ensures ∙ ap (without-ends (a .day) n) v),
-        laid-of (a .day) (now (a .rel)) (now (a .dead)) (now (a .lowest)) (now (a .order)) _ _ (now (a .starts)) _ n _ end
-            (start .pre .0)
-            (c .before .before .before .before .before .before .before .before .before .before .before .read-back .ensures)
-            (c .before .before .before .before .before .before .before .write-out .ensures),
+        ap (λ (x : ℕ). says done x 0) (c .without-ends .ensures ∙ ap (without-ends (a .day) (n v)) (value-read v)),
+        laid-of (a .day) (now (a .rel)) (now (a .dead)) (now (a .lowest)) (now (a .order)) _ _ (now (a .starts)) _ (n v) _ (end v)
+            (start v .pre .0) (c .before .before .before .before .before .before .before .before .before .before .before .read-back .ensures) (c .before .before .before .before .before .before .before .write-out .ensures),
       );
-      not-found = λ h. absurd
-          (omega (
-            arith,
-            c .before .before .before .before .before .before .before .before .before .before .before .before .before .before .if1 .left,
-          ));
-      cleared = whole-cleared (a .day) (now (a .rel)) (now (a .dead)) n _ end (now (a .table)) _
-          (c .before .before .before .before .before .before .before .before .before .before .before .before .before .before .before .before .before .before .before .fill .ensures) _ _ (c .before .before .before .before .before .before .before .before .before .before .before .before .before .before .before .before .before .before .before .before .before .need-of .ensures) (c .before .before .before .zero-first2 .ensures);
+      not-found = λ h. absurd (omega (arith, value-read v, c .before .before .before .before .before .before .before .before .before .before .before .before .before .before .if1 .left));
+      cleared = whole-cleared (a .day) (now (a .rel)) (now (a .dead)) (n v) _ (end v) (now (a .table)) _
+          (v .before .before .before .before .fill .ensures) _ _ (v .before .before .before .before .before .before .need-of .ensures)
+          (c .before .before .before .zero-first2 .ensures);
     }
 
 pub finish-spec : {M : Type 1} → statement M

@@ -1,15 +1,38 @@
 -- `planner::solve` meets its contract: rows are put into number order, and what that gives is finished with. Assumes nothing.
 use Prim.Native.Nat.{ℕ}
 use mathlib.Core.Path.{_≡_, ap, _∙_}
+use mathlib.Core.List.{List}
 use native.Mathlib.Omega.{arith}
 use lib.ListN.{length, getD-replicate}
 use denote.Ref.{now}
+use Rattle.day.specs.Windows.{at}
+use Rattle.day.specs.Number.{Numbered}
 use Rattle.day.proofs.Cases.{give}
 use Rattle.planner.specs.Table.{need}
 use borrow.Author.Needs.{needs}
 use Rattle.planner.proofs.Finished.{numbered-new, releases-fit, deadlines-fit, row-below-count, rows-apart, prepared-of, solved}
 use Rattle.planner.proofs.solve.Statement.{statement}
 use Rattle.planner.proofs.solve.Tie as tie
+
+-- once the rows are numbered
+module _ (c : tie.After-number-rows) where
+  abbrev start : tie.Start
+  start = c .before .before .before .before .before .before .before
+
+  abbrev releases : List ℕ
+  releases = now (start .args .releases)
+
+  abbrev deadlines : List ℕ
+  deadlines = now (start .args .deadlines)
+
+  abbrev order : List ℕ
+  order = c .number-rows .last .1 .0
+
+  all : length order ≡ length releases
+  all = c .number-rows .ensures .places ∙ start .pre .1 .0 .0
+
+  numbered : Numbered (length order) (at deadlines) (at order)
+  numbered = numbered-new deadlines (now (start .args .order)) order (c .number-rows .ensures)
 
 number-rows-requires : tie.Need-number-rows-requires
 number-rows-requires c κs = search needs
@@ -19,17 +42,11 @@ slice-aggregate-by-number c = search needs
 
 by-number-requires : tie.Need-by-number-requires
 by-number-requires c κs =
-    let start = c .before .before .before .before .before .before .before .before .before .before .before in
-    let a = start .args in
-    let releases = now (a .releases) in
-    let deadlines = now (a .deadlines) in
-    let order = c .before .before .before .before .number-rows .last .1 .0 in
-    let all : length order ≡ length releases = c .before .before .before .before .number-rows .ensures .places ∙
-    start .pre .1 .0 .0 in
-    let numbered = numbered-new deadlines (now (a .order)) order (c .before .before .before .before .number-rows .ensures) in (
-      omega (arith, start .pre .0 .rows .count),
-      λ k h. give
-          (releases-fit (a .day) releases deadlines order (start .pre .0) (length order) all numbered k h) (λ f. (f .0, omega arith)),
+    let n = c .before .before .before .before in
+    let accepted = start n .pre .0 in (
+      omega (arith, accepted .rows .count),
+      λ k h. give (releases-fit (start n .args .day) (releases n) (deadlines n) (order n) accepted (length (order n)) (all n) (numbered n) k h)
+          (λ f. (f .0, omega arith)),
     )
 
 slice-aggregate-by-number-2 : tie.Need-slice-aggregate-by-number-2
@@ -37,19 +54,10 @@ slice-aggregate-by-number-2 c = search needs
 
 by-number-requires-2 : tie.Need-by-number-requires-2
 by-number-requires-2 c κs =
-    let start =
-    c .before .before .before .before .before .before .before .before .before .before .before .before .before .before .before in
-    let a = start .args in
-    let releases = now (a .releases) in
-    let deadlines = now (a .deadlines) in
-    let order = c .before .before .before .before .before .before .before .before .number-rows .last .1 .0 in
-    let all : length order ≡ length releases =
-    c .before .before .before .before .before .before .before .before .number-rows .ensures .places ∙ start .pre .1 .0 .0 in
-    let numbered = numbered-new deadlines (now (a .order)) order
-    (c .before .before .before .before .before .before .before .before .number-rows .ensures) in (
-      omega (arith, start .pre .0 .rows .count),
-      λ k h. give
-          (deadlines-fit (a .day) releases deadlines order (start .pre .0) (length order) all numbered k h)
+    let n = c .before .before .before .before .before .before .before .before in
+    let accepted = start n .pre .0 in (
+      omega (arith, accepted .rows .count),
+      λ k h. give (deadlines-fit (start n .args .day) (releases n) (deadlines n) (order n) accepted (length (order n)) (all n) (numbered n) k h)
           (λ f. (f .0, omega arith)),
     )
 
@@ -61,26 +69,16 @@ slice-aggregate-mark-lowest-2 c = search needs
 
 mark-lowest-requires : tie.Need-mark-lowest-requires
 mark-lowest-requires c κs =
-    let start =
-    c .before .before .before .before .before .before .before .before .before .before .before .before .before .before .before .before .before .before .before in
-    let a = start .args in
-    let releases = now (a .releases) in
-    let deadlines = now (a .deadlines) in
-    let order =
-    c .before .before .before .before .before .before .before .before .before .before .before .before .number-rows .last .1 .0 in
-    let all : length order ≡ length releases =
-    c .before .before .before .before .before .before .before .before .before .before .before .before .number-rows .ensures .places ∙ start .pre .1 .0 .0 in
-    let numbered = numbered-new deadlines (now (a .order)) order
-    (c .before .before .before .before .before .before .before .before .before .before .before .before .number-rows .ensures) in
-    let r = c .before .before .before .before .before .before .before .by-number .ensures in
-    let few = start .pre .0 .rows .count in (
-      (few, omega (arith, r .long)),
+    let n = c .before .before .before .before .before .before .before .before .before .before .before .before in
+    let accepted = start n .pre .0 in
+    let first = c .before .before .before .before .before .before .before .by-number .ensures in (
+      (accepted .rows .count, omega (arith, first .long)),
       (
         λ k h. omega (
           arith,
-          r .inside k (omega arith) (omega arith),
-          releases-fit (a .day) releases deadlines order (start .pre .0)
-              (length order) all numbered k (omega arith),
+          first .inside k (omega arith) (omega (arith, all n)),
+          releases-fit (start n .args .day) (releases n) (deadlines n) (order n) accepted (length (order n)) (all n) (numbered n) k
+              (omega (arith, all n)),
         ),
         λ t h. omega (arith, getD-replicate {A = ℕ} 99 t 40 0 (omega arith)),
       ),
@@ -97,33 +95,23 @@ slice-aggregate-finish-3 c = search needs
 
 finish-requires : tie.Need-finish-requires
 finish-requires c κs =
-    let start =
-    c .before .before .before .before .before .before .before .before .before .before .before .before .before .before .before .before .before .before .before .before .before .before .before .before .before .before .before in
-    let a = start .args in
-    let releases = now (a .releases) in
-    let deadlines = now (a .deadlines) in
-    let order =
-    c .before .before .before .before .before .before .before .before .before .before .before .before .before .before .before .before .before .before .before .before .number-rows .last .1 .0 in
-    let all : length order ≡ length releases =
-    c .before .before .before .before .before .before .before .before .before .before .before .before .before .before .before .before .before .before .before .before .number-rows .ensures .places ∙ start .pre .1 .0 .0 in
-    let numbered = numbered-new deadlines (now (a .order)) order
-    (c .before .before .before .before .before .before .before .before .before .before .before .before .before .before .before .before .before .before .before .before .number-rows .ensures) in
-    let few = start .pre .0 .rows .count in
-    let marks = c .before .before .before .before .before .before .before .mark-lowest .ensures in
-    let prepared =
-    prepared-of (a .day) releases deadlines order (start .pre .0) (length order) all numbered _ _ _ _
-    (c .before .before .before .before .before .before .before .before .before .before .before .before .before .before .before .by-number .ensures) (c .before .before .before .before .before .before .before .before .before .before .before .by-number2 .ensures) _
-    (omega arith) (omega arith) (omega (arith, marks .0, start .pre .0 .slots)) (rw (← all) at (marks .1)) in (
-      prepared,
+    let n = c .before .before .before .before .before .before .before .before .before .before .before .before .before .before .before .before .before .before .before .before in
+    let day = start n .args .day in
+    let accepted = start n .pre .0 in
+    let few = accepted .rows .count in
+    let marks = c .before .before .before .before .before .before .before .mark-lowest .ensures in (
+      prepared-of day (releases n) (deadlines n) (order n) accepted (length (order n)) (all n) (numbered n) _ _ _ _
+          (c .before .before .before .before .before .before .before .before .before .before .before .before .before .before .before .by-number .ensures) (c .before .before .before .before .before .before .before .before .before .before .before .by-number2 .ensures) _
+          (omega (arith, all n)) (omega (arith, all n)) (omega (arith, marks .0, accepted .slots)) (rw (← all n) at (marks .1)),
       (
-        omega (arith, ap (need (a .day .slots)) all, start .pre .1 .1),
+        omega (arith, ap (need (day .slots)) (all n), start n .pre .1 .1),
         (
           λ k h. omega (
             arith,
-            row-below-count (a .day) releases deadlines order (start .pre .0) (length order) all numbered k h,
-            start .pre .1 .0,
+            row-below-count day (releases n) (deadlines n) (order n) accepted (length (order n)) (all n) (numbered n) k h,
+            start n .pre .1 .0,
           ),
-          rows-apart (a .day) releases deadlines order (start .pre .0) (length order) all numbered,
+          rows-apart day (releases n) (deadlines n) (order n) accepted (length (order n)) (all n) (numbered n),
         ),
       ),
     )
@@ -139,19 +127,10 @@ same-length-3 c = search needs
 
 returns : tie.Need-returns
 returns c =
-    let start =
-    c .before .before .before .before .before .before .before .before .before .before .before .before .before .before .before .before .before .before .before .before .before .before .before .before .before .before .before .before .before .before .before .before in
-    let a = start .args in
-    let releases = now (a .releases) in
-    let deadlines = now (a .deadlines) in
-    let order =
-    c .before .before .before .before .before .before .before .before .before .before .before .before .before .before .before .before .before .before .before .before .before .before .before .before .before .number-rows .last .1 .0 in
-    let all : length order ≡ length releases =
-    c .before .before .before .before .before .before .before .before .before .before .before .before .before .before .before .before .before .before .before .before .before .before .before .before .before .number-rows .ensures .places ∙ start .pre .1 .0 .0 in
-    let numbered = numbered-new deadlines (now (a .order)) order
-    (c .before .before .before .before .before .before .before .before .before .before .before .before .before .before .before .before .before .before .before .before .before .before .before .before .before .number-rows .ensures) in
-    solved (a .day) releases deadlines order (start .pre .0) (length order) all numbered _ _ _ _
-    (c .before .before .before .before .before .before .before .before .before .before .before .before .before .before .before .before .before .before .before .before .by-number .ensures) (c .before .before .before .before .before .before .before .before .before .before .before .before .before .before .before .before .by-number2 .ensures) (now (a .starts)) (now (a .table)) _ _ _ (c .before .before .before .before .finish .ensures)
+    let n = c .before .before .before .before .before .before .before .before .before .before .before .before .before .before .before .before .before .before .before .before .before .before .before .before .before in
+    solved (start n .args .day) (releases n) (deadlines n) (order n) (start n .pre .0) (length (order n)) (all n) (numbered n) _ _ _ _
+    (c .before .before .before .before .before .before .before .before .before .before .before .before .before .before .before .before .before .before .before .before .by-number .ensures) (c .before .before .before .before .before .before .before .before .before .before .before .before .before .before .before .before .by-number2 .ensures)
+    (now (start n .args .starts)) (now (start n .args .table)) _ _ _ (c .before .before .before .before .finish .ensures)
 
 pub solve-spec : {M : Type 1} → statement M
 solve-spec =
