@@ -5,7 +5,7 @@ use mathlib.Core.List.{List, [], _∷_, _++_, map}
 use native.Mathlib.Omega.{arith}
 use lib.Dec.{ltb, lit<, lit≤}
 use lib.ListN.{length, getD, set, take, length-map, length-set}
-use lib.Seq.{take-suc, take-suc-set, length-take-le, take-all}
+use lib.Seq.{take-suc, take-suc-set, take-all}
 use borrow.Author.Tests.{lt-ltb, le-ltb, ltb-false}
 use Rattle.day.proofs.Cases.{on, on-le}
 use Rattle.day.specs.declared.Job.{Job}

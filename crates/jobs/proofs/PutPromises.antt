@@ -5,14 +5,13 @@ use mathlib.Core.List.{List, map}
 use native.Mathlib.Omega.{arith}
 use native.Mathlib.Nat.{min-eq-left}
 use borrow.Author.Tests.{lt-ltb, le-ltb}
-use lib.ListN.{length, take, length-map}
+use lib.ListN.{length, length-map}
 use lib.IntN.{ℤ}
 use lib.Seq.{getD-take, length-take-le}
 use Rattle.day.specs.declared.Answer.{Answer}
 use Rattle.day.specs.declared.Job.{Job}
 use Rattle.day.specs.Windows.{Windows, at, windows}
 use Rattle.day.specs.Answer.{done, few-rows}
-use Rattle.day.specs.Change.{Shifts}
 use Rattle.day.specs.Check.{most-jobs}
 use Rattle.day.specs.Refusal.{_then_, stops, goes-on, Passed, Refuses}
 use Rattle.day.proofs.Cases.{give, on-le}
@@ -27,7 +26,7 @@ use Rattle.jobs.specs.declared.rows.Rows.{Rows}
 use Rattle.jobs.specs.declared.by_value.MovedRows.{MovedRows}
 use Rattle.jobs.specs.declared.by_value.ReadRows.{ReadRows}
 use Rattle.jobs.specs.Rows.{none, rows-of, releases-in, deadlines-in, windows-in, put-over, job-at, zeros}
-use Rattle.jobs.specs.Columns.{releases, deadlines, windows-of}
+use Rattle.jobs.specs.Columns.{releases, deadlines}
 use Rattle.jobs.specs.ByValue.{MovesRows, places, blank, ReadsRows}
 use Rattle.jobs.proofs.Copied.{few-count, few-releases, few-deadlines, many-rows}
 use Rattle.jobs.proofs.Put.{put-few, put-within, put-none, put-long, put-rows, put-rest}

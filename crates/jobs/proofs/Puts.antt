@@ -22,9 +22,8 @@ use denote.Ref.{RefT, ptr, name, now}
 use denote.Slice.{sliceVal, MutSlice, finally}
 use denote.Steps.{only, nothing, owned, peeks, heard}
 use denote.Struct.Laws as LL
-use denote.Triple.Clauses.{Ended, Clauses, Lasts, lasts, atExit, ensured, closing}
-use denote.Triple.Entry.{Res}
-use denote.Triple.Spec.{Back, tripleOf}
+use denote.Triple.Clauses.{lasts}
+use denote.Triple.Spec.{tripleOf}
 use denote.Triple.Statement.{Contract, Triple}
 use denote.Triple.Table.{cited}
 use Rattle.day.specs.declared.Job.{Job}

@@ -13,7 +13,7 @@ use base.Fml.{fat, froom, fdies}
 use prog.Wp.{Heap, Env, Calls, Loops, WpFn}
 use ghost.Atoms.{Atoms}
 use sound.WpLaws.{FmC}
-use types.Kit.{Given, Item, ‵, raw, given, later, mean, ⋆, nth, del, pull, Goal, frees, aim, Step, step, _$_, _∵_, !, qed, move, learn, await, done}
+use types.Kit.{Given, Item, ‵, raw, given, later, mean, ⋆, nth, del, pull, Goal, frees, Step, step, _$_, _∵_, !, qed, move, learn, await, done}
 use types.Run.{look, init, stop, from, load, and-then, no-more, calls, land, returns, enter, alloc1, alloc0, params1, pass1, pass0, free0}
 
 -- a machine value is one of the type

@@ -7,7 +7,7 @@ use lib.ListN.{length, getD, length-append, List·getD-append}
 use lib.Seq.{getD-append-seam}
 use borrow.Author.Tests.{lt-ltb, le-ltb}
 use Rattle.day.proofs.Cases.{on-le, on-eq, give}
-use Rattle.report.specs.Decimal.{digits, decimal, value-after, value, Decimal}
+use Rattle.report.specs.Decimal.{digits, decimal, value-after, Decimal}
 
 digits-small : (steps n : ℕ) → n < 10 → digits steps n ≡ (48 + n) ∷ []
 unfolding digits

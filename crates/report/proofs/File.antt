@@ -1,15 +1,15 @@
 -- Laws of planning a file: what each way of answering gives. Assumes nothing.
 use Prim.Native.Nat.{ℕ, zero, suc, _≤_, _<_, min}
 use mathlib.Core.Path.{_≡_, refl, sym, _∙_, ap}
-use mathlib.Core.List.{List, [], _∷_, _++_}
+use mathlib.Core.List.{List, [], _∷_}
 use native.Mathlib.Omega.{arith}
-use lib.ListN.{length, take, getD, length-append, List·getD-append, replicate}
+use lib.ListN.{length, take, length-append, List·getD-append}
 use lib.Seq.{length-take-le, getD-take, getD-append-seam, ext-getD}
 use Rattle.day.specs.declared.Answer.{Answer}
 use Rattle.day.specs.declared.Day.{Day}
 use Rattle.day.specs.Windows.{Windows, windows, at}
 use Rattle.day.specs.Answer.{says, done, no-plan, long-input}
-use Rattle.day.specs.Refusal.{_then_, stops, goes-on, Passed, Refuses}
+use Rattle.day.specs.Refusal.{_then_, stops, goes-on, Refuses}
 use Rattle.day.specs.Check.{Accepted, most-jobs}
 use Rattle.day.proofs.Cases.{on-eq, on-le}
 use Rattle.day.proofs.Refusal.{then-clear, then-group, then-next, clear-first, clear-next, no-fault, past}

@@ -13,7 +13,6 @@ use Rattle.dayfile.specs.Format.{count-in, slots-in, wake-in, release-in, deadl
 use Rattle.dayfile.specs.Reader.{FileCheck}
 use Rattle.planner.specs.Table.{need}
 use Rattle.planner.specs.Promise.{Planned, PlanCheck}
-use Rattle.ledger.specs.declared.Counts.{Counts}
 use Rattle.ledger.specs.Promise.{no-counts, Ledgered}
 use Rattle.report.specs.declared.Outcome.{Outcome}
 use Rattle.report.specs.declared.text.Text.{Text}

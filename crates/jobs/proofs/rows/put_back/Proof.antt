@@ -1,7 +1,7 @@
 -- `jobs::rows::put_back` meets its contract: a walk of its MIR, by hand. The borrow is opened once, before the loop, and closed once, after it.
 -- Assumes nothing.
-use mathlib.Core.Path.{_≡_, refl, sym, ap, _∙_}
-use Prim.Native.Nat.{ℕ, zero, suc, _+_, _*_, _<_, _≤_, _^_}
+use mathlib.Core.Path.{_≡_, refl, sym, ap}
+use Prim.Native.Nat.{ℕ, suc, _+_, _*_, _<_, _≤_, _^_}
 use native.Mathlib.Numerals.{add-one}
 use native.Mathlib.Omega.{arith}
 use mathlib.Core.Bool.{Bool}
@@ -49,7 +49,7 @@ use Rattle.day.specs.declared.Job.{Job}
 use Rattle.day.proofs.Job as T
 use Rattle.day.proofs.Job.Laws as T′
 use Rattle.jobs.specs.declared.rows.Rows.{Rows}
-use Rattle.jobs.specs.Rows.{none, put-count, put-first, put-over, job-at}
+use Rattle.jobs.specs.Rows.{none, put-count, put-first, job-at}
 use Rattle.jobs.proofs.Put.{put-within, put-few, put-length}
 use Rattle.jobs.proofs.Setting.{R, S, machine, leaves}
 use Rattle.jobs.proofs.Runs.{free-at, free-room}

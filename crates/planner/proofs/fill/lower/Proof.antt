@@ -3,7 +3,6 @@ use Prim.Native.Nat.{_-_, _≤_}
 use mathlib.Core.Path.{_≡_}
 use native.Mathlib.Omega.{arith}
 use Rattle.planner.specs.Written.{Written, itself, lowered}
-use borrow.Author.Needs.{needs}
 use Rattle.planner.proofs.Written.{written-none, written-more}
 use Rattle.planner.proofs.fill.lower.Statement.{statement}
 use Rattle.planner.proofs.fill.lower.Tie as tie

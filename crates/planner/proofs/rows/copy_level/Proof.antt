@@ -1,5 +1,5 @@
 -- `planner::rows::copy_level` meets its contract: the rows below `from` are copied. Assumes nothing.
-use Prim.Native.Nat.{ℕ, _+_, _-_, _≤_}
+use Prim.Native.Nat.{_+_, _-_, _≤_}
 use mathlib.Core.Path.{_≡_}
 use native.Mathlib.Omega.{arith}
 use Rattle.planner.specs.Table.{row}

@@ -4,7 +4,7 @@ use native.Mathlib.Omega.{arith}
 use borrow.Author.Needs.{needs}
 use borrow.Fn.Kinds.{In}
 use borrow.Fn.PlainCycle.{Measures, is, falls, and}
-use lib.ListN.{length, length-append}
+use lib.ListN.{length-append}
 use Rattle.report.proofs.Append.{appended-join}
 use Rattle.report.proofs.Decimal.{decimal-small, decimal-large}
 use Rattle.report.proofs.text.put_decimal.Reads as reads
