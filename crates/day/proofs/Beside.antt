@@ -1,5 +1,5 @@
--- Side by side: for two lists with a wake between them, the best plan of the joined list is the best plans of the two, side by side,
--- and back. Assumes nothing.
+-- Side by side: for two lists with a wake between them, the best plan of the joined list is the best plans of the two, side by side.
+-- Assumes nothing.
 use Prim.Native.Nat.{ℕ, _+_, _≤_, _<_}
 use mathlib.Core.Path.{_≡_, sym}
 use native.Mathlib.Omega.{arith}
@@ -8,13 +8,13 @@ use Rattle.day.specs.declared.Day.{Day}
 use Rattle.day.specs.Windows.{Windows}
 use Rattle.day.specs.Plan.{Plan, Proper, NoPlan}
 use Rattle.day.specs.Gap.{cost}
-use Rattle.day.specs.Best.{AsLate, Best}
+use Rattle.day.specs.Best.{Best}
 use Rattle.day.specs.Change.{beside, after, joined, joining, Apart}
 use Rattle.day.proofs.Cases.{give}
-use Rattle.day.proofs.Plan.{alike-refl, proper-cong}
+use Rattle.day.proofs.Plan.{same-rows-refl, proper-cong}
 use Rattle.day.proofs.Gap.{price-long, cost-agree}
 use Rattle.day.proofs.Best.{best-cong}
-use Rattle.day.proofs.Joined.{beside-first, beside-after, first-proper, second-proper, joined-proper, first-as-late, second-as-late, joined-as-late}
+use Rattle.day.proofs.Joined.{beside-first, beside-after, first-proper, second-proper, joined-proper, joined-as-late}
 use Rattle.day.proofs.JoinedCost.{joined-cost}
 
 -- where the first list ends by g and the second begins at g + L or later, they are apart
@@ -38,8 +38,8 @@ module _ {power : Power} {g h : ℕ} {w v : Windows} (apart : Apart power g h w 
   pub beside-proper : (p q : Plan) → Proper w p → Proper v q → Proper (joined w v) (beside (w .count) p q)
   beside-proper p q P Q =
       joined-proper apart (beside (w .count) p q)
-      (proper-cong w w p (beside (w .count) p q) (alike-refl w) (λ i l. sym (beside-first (w .count) p q i l)) P)
-      (proper-cong v v q (after (w .count) (beside (w .count) p q)) (alike-refl v) (λ k l. sym (beside-after (w .count) p q k)) Q)
+      (proper-cong w w p (beside (w .count) p q) (same-rows-refl w) (λ i l. sym (beside-first (w .count) p q i l)) P)
+      (proper-cong v v q (after (w .count) (beside (w .count) p q)) (same-rows-refl v) (λ k l. sym (beside-after (w .count) p q k)) Q)
 
   -- two lists that join to none: where the first has a plan, the second has none
   pub rest-no-plan : NoPlan (joined w v) → (p : Plan) → Proper w p → NoPlan v
@@ -50,13 +50,6 @@ pub record BesideBest (day : Day) (w v : Windows) (p q : Plan) : Type 0 where
   pub best : Best day (joined w v) (beside (w .count) p q)
   pub costs : cost day (w .count + v .count) (beside (w .count) p q)
       ≡ cost day (w .count) p + cost day (v .count) q + joining (day .power) w v
-
--- the best plans of two lists, as parts of the best plan of the joined list
-pub record PartsBest (day : Day) (w v : Windows) (r : Plan) : Type 0 where
-  pub first : Best day w r
-  pub second : Best day v (after (w .count) r)
-  pub costs : cost day (w .count + v .count) r
-      ≡ cost day (w .count) r + cost day (v .count) (after (w .count) r) + joining (day .power) w v
 
 module _ {day : Day} {g h : ℕ} {w v : Windows} (apart : Apart (day .power) g h w v)
     (within : (k : ℕ) → k < v .count → v .deadline k ≤ day .slots) where
@@ -103,51 +96,8 @@ module _ {day : Day} {g h : ℕ} {w v : Windows} (apart : Apart (day .power) g h
       record {
         best =
             joined-best (beside (w .count) p q)
-            (best-cong day w w p (beside (w .count) p q) (alike-refl w) (λ i l. sym (beside-first (w .count) p q i l)) B)
-            (best-cong day v v q (after (w .count) (beside (w .count) p q)) (alike-refl v)
+            (best-cong day w w p (beside (w .count) p q) (same-rows-refl w) (λ i l. sym (beside-first (w .count) p q i l)) B)
+            (best-cong day v v q (after (w .count) (beside (w .count) p q)) (same-rows-refl v)
             (λ k l. sym (beside-after (w .count) p q k)) C);
         costs = beside-cost p q (B .proper) (C .proper);
       }
-
-  -- against the best plan of the joined list, any two plans side by side
-
-  parts-cheapest : (r p q : Plan) → Best day (joined w v) r → Proper w p → Proper v q
-      → cost day (w .count) r + cost day (v .count) (after (w .count) r) ≤ cost day (w .count) p + cost day (v .count) q
-  parts-cheapest r p q B P Q =
-      omega (
-        arith,
-        joined-cost apart within r (B .proper),
-        beside-cost p q P Q,
-        B .cheapest (beside (w .count) p q) (beside-proper apart p q P Q),
-      )
-
-  parts-latest : (r p q : Plan) → Best day (joined w v) r → Proper w p → Proper v q
-      → cost day (w .count) p + cost day (v .count) q ≡ cost day (w .count) r + cost day (v .count) (after (w .count) r)
-      → AsLate (joined w v) r (beside (w .count) p q)
-  parts-latest r p q B P Q e =
-      B .latest (beside (w .count) p q) (beside-proper apart p q P Q)
-      (omega (arith, joined-cost apart within r (B .proper), beside-cost p q P Q))
-
-  first-best : (r : Plan) → Best day (joined w v) r → Best day w r
-  first-best r B =
-      give (second-proper w v r (B .proper))
-      (λ Q.
-      record {
-        proper = first-proper w v r (B .proper);
-        cheapest = λ p P. omega (arith, parts-cheapest r p (after (w .count) r) B P Q);
-        latest = λ p P e. first-as-late w v r p (parts-latest r p (after (w .count) r) B P Q (omega arith));
-      })
-
-  second-best : (r : Plan) → Best day (joined w v) r → Best day v (after (w .count) r)
-  second-best r B =
-      give (first-proper w v r (B .proper))
-      (λ P.
-      record {
-        proper = second-proper w v r (B .proper);
-        cheapest = λ q Q. omega (arith, parts-cheapest r r q B P Q);
-        latest = λ q Q e. second-as-late w v r q (parts-latest r r q B P Q (omega arith));
-      })
-
-  pub parts-best : (r : Plan) → Best day (joined w v) r → PartsBest day w v r
-  parts-best r B =
-      record { first = first-best r B; second = second-best r B; costs = joined-cost apart within r (B .proper) }

@@ -4,13 +4,13 @@ use mathlib.Core.Path.{_≡_, sym}
 use mathlib.Core.Logic.{⊎-elim, inl, inr}
 use native.Mathlib.Omega.{arith}
 use Rattle.day.specs.declared.Day.{Day}
-use Rattle.day.specs.Windows.{Windows}
+use Rattle.day.specs.Windows.{SameRows, Windows}
 use Rattle.day.specs.Plan.{Plan, Proper}
 use Rattle.day.specs.Number.{Lower}
 use Rattle.day.specs.Gap.{cost}
 use Rattle.day.specs.Best.{AsLate, same, later, Best}
 use Rattle.day.proofs.Cases.{give, on-eq}
-use Rattle.day.proofs.Plan.{Offset, OffsetPlan, offset-turned, offset-plan-turned, proper-offset, offset-proper, Alike, alike-offset}
+use Rattle.day.proofs.Plan.{Offset, OffsetPlan, offset-turned, offset-plan-turned, proper-offset, offset-proper, same-rows-offset}
 use Rattle.day.proofs.Gap.{cost-agree}
 use Rattle.day.proofs.Number.{lower-total}
 
@@ -88,14 +88,14 @@ best-offset day a b w v p q o f keeps best =
     kept : (s : Plan) → Proper v s → cost day (w .count) (back s) ≡ cost day (v .count) s
     kept s h = keeps (back s) s (ready s h) h (back-offset s h)
 
-pub cost-cong : (day : Day) (w v : Windows) (p q : Plan) → Alike w v → ((i : ℕ) → i < w .count → p i ≡ q i)
+pub cost-cong : (day : Day) (w v : Windows) (p q : Plan) → SameRows w v → ((i : ℕ) → i < w .count → p i ≡ q i)
     → cost day (w .count) p ≡ cost day (v .count) q
 cost-cong day w v p q a f = rw (a .count) (cost-agree day (w .count) p q f)
 
 -- only the rows of the windows and the starts of those rows matter
-pub best-cong : (day : Day) (w v : Windows) (p q : Plan) → Alike w v → ((i : ℕ) → i < w .count → p i ≡ q i)
+pub best-cong : (day : Day) (w v : Windows) (p q : Plan) → SameRows w v → ((i : ℕ) → i < w .count → p i ≡ q i)
     → Best day w p
     → Best day v q
 best-cong day w v p q a f =
-    best-offset day 0 0 w v p q (alike-offset w v a) (λ i l. omega (arith, f i l))
+    best-offset day 0 0 w v p q (same-rows-offset w v a) (λ i l. omega (arith, f i l))
     (λ r s h k g. cost-cong day w v r s a (λ i l. omega (arith, g i l)))

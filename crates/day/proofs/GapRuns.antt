@@ -1,36 +1,70 @@
--- The gaps are what document 01 calls so: the list holds the lengths of the maximal runs of empty slots between two jobs, in their order
--- and with none left out. Assumes nothing.
+-- The walk lists the gaps: the lengths of the maximal runs of empty slots between two jobs, in their order and with none left out.
+-- Assumes nothing.
 use Prim.Native.Nat.{ℕ, zero, suc, _+_, _-_, _≤_, _<_}
 use mathlib.Core.Path.{_≡_, refl, ap}
 use mathlib.Core.Bool.{Bool, true, false}
 use mathlib.Core.List.{List, [], _∷_}
 use native.Mathlib.Omega.{arith}
-use Rattle.day.specs.Gap.{ended, gaps-since, gaps}
+use Rattle.day.specs.Gap.{EmptyFrom, Gap, NoGap, Listed, none, next, ended, gaps-since, gaps}
 use Rattle.day.proofs.Cases.{give, on, on-eq, on-le, not-both}
 use Rattle.day.proofs.Gap.{gaps-since-none, gaps-since-full, gaps-since-empty, gaps-none, gaps-full, gaps-empty}
 
--- a maximal run of g ≥ 1 empty slots, from one on, with a job before it and one after it: these stand next to it, else the run were longer
-pub record Run (full : ℕ → Bool) (slots from g : ℕ) : Type 0 where
-  pub some : 1 ≤ g
+-- a gap by its neighbours: were the slot before it or after it empty, it would not be maximal
+pub record Between (full : ℕ → Bool) (slots from g : ℕ) : Type 0 where
   pub later : 1 ≤ from
   pub before : full (from - 1) ≡ true
-  pub empty : (t : ℕ) → from ≤ t → t < from + g → full t ≡ false
   pub after : full (from + g) ≡ true
   pub within : from + g < slots
 
--- no run begins at t or later and before e
-abbrev pub NoRun : (ℕ → Bool) → ℕ → ℕ → ℕ → Type 0
-NoRun full slots t e = (from g : ℕ) → t ≤ from → from < e → Run full slots from g → ⊥
-
--- the lengths of all runs that begin at t or later, in their order
-pub data Listed (full : ℕ → Bool) (slots : ℕ) : ℕ → List ℕ → Type 0 where
-  none : {t : ℕ} → NoRun full slots t slots → Listed full slots t []
-  next : {t g : ℕ} {gs : List ℕ} (from : ℕ) → t ≤ from → NoRun full slots t from → Run full slots from g
-      → Listed full slots (suc from) gs
-      → Listed full slots t (g ∷ gs)
-
 module _ (full : ℕ → Bool) (slots : ℕ) where
-  listed-earlier : {u : ℕ} {gs : List ℕ} (t : ℕ) → t ≤ u → NoRun full slots t u → Listed full slots u gs → Listed full slots t gs
+  pub gap-between : {from g : ℕ} → Gap full slots from g → Between full slots from g
+  gap-between {from} {g} gap =
+      give (gap .job-before)
+      (λ b.
+      give (gap .job-after)
+      (λ a.
+      record {
+        later = omega (arith, b .1);
+        before =
+            on (full (from - 1)) (λ e. e)
+            (λ e.
+            absurd (omega (
+              arith,
+              b .1,
+              a .1,
+              gap .maximal (from - 1) (from + g) (omega arith) (omega arith) (omega (arith, a .1, a .2))
+                  (λ t l h. on-le from t (λ k. gap .empty t k h) (λ k. let here : t ≡ from - 1 = omega arith in rw here e)) .0,
+            )));
+        after =
+            on (full (from + g)) (λ e. e)
+            (λ e.
+            absurd (omega (
+              arith,
+              a .1,
+              a .2,
+              gap .maximal from (from + g + 1) (omega arith) (omega arith)
+                  (on-eq (a .0) (from + g) (λ z. absurd (not-both (a .3) (rw z e))) (λ z. omega (arith, a .1, a .2)))
+                  (λ t l h. on-le (from + g) t (λ k. let here : t ≡ from + g = omega arith in rw here e) (λ k. gap .empty t l k)) .1,
+            )));
+        within = on-eq (a .0) (from + g) (λ z. omega (arith, a .2)) (λ z. omega (arith, a .1, a .2));
+      }))
+
+  pub between-gap : {from g : ℕ} → 1 ≤ g → EmptyFrom full from (from + g) → Between full slots from g → Gap full slots from g
+  between-gap {from} {g} some empty next-to =
+      record {
+        some = some;
+        empty = empty;
+        maximal = λ a b l h k clear. (
+          on-le from a (λ m. omega arith)
+              (λ m. absurd (not-both (next-to .before) (clear (from - 1) (omega arith) (omega arith)))),
+          on-le b (from + g) (λ m. omega arith)
+              (λ m. absurd (not-both (next-to .after) (clear (from + g) (omega arith) m))),
+        );
+        job-before = (from - 1, omega (arith, next-to .later), next-to .before);
+        job-after = (from + g, omega arith, next-to .within, next-to .after);
+      }
+
+  listed-earlier : {u : ℕ} {gs : List ℕ} (t : ℕ) → t ≤ u → NoGap full slots t u → Listed full slots u gs → Listed full slots t gs
   listed-earlier {u} t l free (none f) =
       none {t = t} (λ from g a b r. on-le u from (λ c. f from g c b r) (λ c. free from g a c r))
   listed-earlier {u} t l free (next from a f r more) =
@@ -52,16 +86,10 @@ module _ (full : ℕ → Bool) (slots : ℕ) where
       let before : suc a - 1 ≡ a = omega arith in
       let after : suc a + suc g ≡ t = omega arith in
       next {t = suc a} {g = suc g} (suc a) (omega arith) (λ from h b c r. absurd (omega arith))
-      (record {
-        some = omega arith;
-        later = omega arith;
-        before = rw before job;
-        empty = λ u b c. clear u (omega arith) (omega arith);
-        after = rw after end;
-        within = omega arith;
-      })
+      (between-gap (omega arith) (λ u b c. clear u (omega arith) (omega arith))
+      (record { later = omega arith; before = rw before job; after = rw after end; within = omega arith }))
       (listed-earlier (suc (suc a)) (omega arith)
-      (λ from h b c r. not-both (r .before) (clear (from - 1) (omega arith) (omega arith))) more)
+      (λ from h b c r. not-both (gap-between r .before) (clear (from - 1) (omega arith) (omega arith))) more)
 
   -- g slots have been empty since the job at a
   since-listed : (m g a t : ℕ) → t + m ≡ slots → t ≡ suc a + g → full a ≡ true
@@ -71,7 +99,7 @@ module _ (full : ℕ → Bool) (slots : ℕ) where
       rw (gaps-since-none full g t)
       (none {t = suc a}
       (λ from h l b r.
-      give (r .within) (λ w. not-both (r .after) (clear (from + h) (omega arith) (omega arith)))))
+      give (gap-between r) (λ n. not-both (n .after) (clear (from + h) (omega arith) (omega (arith, n .within))))))
   since-listed (suc m) g a t p q job clear =
       on (full t)
       (λ e.
@@ -87,13 +115,13 @@ module _ (full : ℕ → Bool) (slots : ℕ) where
   before-listed : (m t : ℕ) → t + m ≡ slots → ((u : ℕ) → u < t → full u ≡ false) → Listed full slots 0 (gaps full t m)
   before-listed zero t p clear =
       rw (gaps-none full t)
-      (none {t = 0} (λ from g l b r. give (r .within) (λ w. not-both (r .after) (clear (from + g) (omega arith)))))
+      (none {t = 0} (λ from g l b r. give (gap-between r) (λ n. not-both (n .after) (clear (from + g) (omega (arith, n .within))))))
   before-listed (suc m) t p clear =
       on (full t)
       (λ e.
       rw (gaps-full full t m e)
       (listed-earlier 0 (omega arith)
-      (λ from g l b r. give (r .later) (λ w. not-both (r .before) (clear (from - 1) (omega arith))))
+      (λ from g l b r. give (gap-between r) (λ n. not-both (n .before) (clear (from - 1) (omega (arith, n .later)))))
       (since-listed m 0 t (suc t) (omega arith) (omega arith) e (λ u b c. absurd (omega arith)))))
       (λ e.
       rw (gaps-empty full t m e)
@@ -102,24 +130,25 @@ module _ (full : ℕ → Bool) (slots : ℕ) where
   pub gaps-listed : Listed full slots 0 (gaps full 0 slots)
   gaps-listed = before-listed slots 0 (omega arith) (λ u l. absurd (omega arith))
 
-  -- a run is as long as it is
-  run-length : (from g h : ℕ) → Run full slots from g → Run full slots from h → h ≤ g
-  run-length from g h r s = on-le h g (λ l. l) (λ l. absurd (not-both (r .after) (s .empty (from + g) (omega arith) (omega arith))))
+  -- a gap is as long as it is
+  gap-length : (from g h : ℕ) → Gap full slots from g → Gap full slots from h → h ≤ g
+  gap-length from g h r s =
+      on-le h g (λ l. l) (λ l. absurd (not-both (gap-between r .after) (s .empty (from + g) (omega arith) (omega arith))))
 
   -- one list at most
   pub listed-unique : {t : ℕ} {gs hs : List ℕ} → Listed full slots t gs → Listed full slots t hs → gs ≡ hs
   listed-unique (none f) (none k) = refl
-  listed-unique (none f) (next from l k r more) = absurd (f from _ l (omega (arith, r .within)) r)
-  listed-unique (next from l f r more) (none k) = absurd (k from _ l (omega (arith, r .within)) r)
+  listed-unique (none f) (next from l k r more) = absurd (f from _ l (omega (arith, gap-between r .within)) r)
+  listed-unique (next from l f r more) (none k) = absurd (k from _ l (omega (arith, gap-between r .within)) r)
   listed-unique (next {g = g} from l f r more) (next {g = h} x b k s others) =
       on-le from x
       (λ c.
       on-le x from
       (λ d.
       let same : x ≡ from = omega arith in
-      let run : Run full slots from h = rw same at s in
+      let gap : Gap full slots from h = rw same at s in
       let rest : Listed full slots (suc from) _ = rw same at others in
-      let length : g ≡ h = omega (arith, run-length from g h r run, run-length from h g run r) in
+      let length : g ≡ h = omega (arith, gap-length from g h r gap, gap-length from h g gap r) in
       rw length (ap (λ (gs : List ℕ). h ∷ gs) (listed-unique more rest)))
       (λ d. absurd (k from g l d r)))
       (λ c. absurd (f x h b c s))

@@ -55,39 +55,6 @@ module _ (w v : Windows) where
       ⊎-elim (λ h. inl h) (λ h. inr (h .0, omega arith))
       (rw (beside-after (w .count) (w .deadline) (v .deadline) i, beside-after (w .count) (w .deadline) (v .deadline) j) at low)
 
-  lower-after : (i j : ℕ) → Lower (v .deadline) i j → Lower (joined w v .deadline) (w .count + i) (w .count + j)
-  lower-after i j low =
-      rw (beside-after (w .count) (w .deadline) (v .deadline) i, beside-after (w .count) (w .deadline) (v .deadline) j)
-      (⊎-elim (λ h. inl h) (λ h. inr (h .0, omega arith)) low)
-
-  -- r is later than s at row i of the joined list, and the same at each row of a higher number
-  abbrev LaterAt : Plan → Plan → ℕ → Type 0
-  LaterAt r s i =
-      (s i < r i) × ((j : ℕ) → j < w .count + v .count → Lower (joined w v .deadline) i j → r j ≡ s j)
-
-  -- against a plan that differs on the first list alone
-  pub first-as-late : (r p : Plan) → AsLate (joined w v) r (beside (w .count) p (after (w .count) r)) → AsLate w r p
-  first-as-late r p (same f) = same (λ i l. f i (omega arith) ∙ beside-first (w .count) p (after (w .count) r) i l)
-  first-as-late r p (later i l d above) =
-      on-row (λ i. LaterAt r (beside (w .count) p (after (w .count) r)) i → AsLate w r p) (w .count) (v .count) i l
-      (λ i l x.
-      later i l (omega (arith, x .0, beside-first (w .count) p (after (w .count) r) i l))
-      (λ j m low.
-      x .1 j (omega arith) (rw (first-lower i j l m) low) ∙ beside-first (w .count) p (after (w .count) r) j m))
-      (λ k l x. absurd (omega (arith, x .0, beside-after (w .count) p (after (w .count) r) k)))
-      (d, above)
-
-  -- against a plan that differs on the second list alone
-  pub second-as-late : (r q : Plan) → AsLate (joined w v) r (beside (w .count) r q) → AsLate v (after (w .count) r) q
-  second-as-late r q (same f) = same (λ k l. f (w .count + k) (omega arith) ∙ beside-after (w .count) r q k)
-  second-as-late r q (later i l d above) =
-      on-row (λ i. LaterAt r (beside (w .count) r q) i → AsLate v (after (w .count) r) q) (w .count) (v .count) i l
-      (λ i l x. absurd (omega (arith, x .0, beside-first (w .count) r q i l)))
-      (λ k l x.
-      later k l (omega (arith, x .0, beside-after (w .count) r q k))
-      (λ j m low. x .1 (w .count + j) (omega arith) (lower-after k j low) ∙ beside-after (w .count) r q j))
-      (d, above)
-
 module _ {power : Power} {g h : ℕ} {w v : Windows} (apart : Apart power g h w v) where
   pub first-ends : (p : Plan) → Proper w p → (i : ℕ) → i < w .count → p i < g
   first-ends p P i l = omega (arith, apart .first i l, P .inside i l)

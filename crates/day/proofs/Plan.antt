@@ -6,7 +6,7 @@ use mathlib.Core.Logic.{⊎-elim}
 use native.Mathlib.Omega.{arith}
 use lib.Dec.{eqb}
 use borrow.Author.Tests.{eqb-true, eq-eqb, ne-eqb}
-use Rattle.day.specs.Windows.{Windows}
+use Rattle.day.specs.Windows.{Windows, SameRows}
 use Rattle.day.specs.Plan.{Plan, Proper, NoPlan, taken}
 use Rattle.day.proofs.Cases.{give, on, on-eq, not-both, bool-ext, or-cases, or-left, or-right}
 
@@ -99,25 +99,19 @@ pub no-plan-offset : (a b : ℕ) (w v : Windows) → Offset a b w v → NoPlan v
 no-plan-offset a b w v o none p h =
     none (λ i. p i + a - b) (proper-offset a b w v p (λ i. p i + a - b) o (offset-proper a b w v p o h) h)
 
--- windows that are the same for each of their rows
-pub record Alike (w v : Windows) : Type 0 where
-  pub count : v .count ≡ w .count
-  pub release : (i : ℕ) → i < w .count → w .release i ≡ v .release i
-  pub deadline : (i : ℕ) → i < w .count → w .deadline i ≡ v .deadline i
+pub same-rows-refl : (w : Windows) → SameRows w w
+same-rows-refl w = record { count = refl; release = λ i l. refl; deadline = λ i l. refl }
 
-pub alike-refl : (w : Windows) → Alike w w
-alike-refl w = record { count = refl; release = λ i l. refl; deadline = λ i l. refl }
-
-pub alike-turned : (w v : Windows) → Alike w v → Alike v w
-alike-turned w v a =
+pub same-rows-turned : (w v : Windows) → SameRows w v → SameRows v w
+same-rows-turned w v a =
     record {
       count = sym (a .count);
       release = λ i l. sym (a .release i (omega arith));
       deadline = λ i l. sym (a .deadline i (omega arith));
     }
 
-pub alike-offset : (w v : Windows) → Alike w v → Offset 0 0 w v
-alike-offset w v a =
+pub same-rows-offset : (w v : Windows) → SameRows w v → Offset 0 0 w v
+same-rows-offset w v a =
     record {
       count = a .count;
       release = λ i l. omega (arith, a .release i l);
@@ -125,8 +119,8 @@ alike-offset w v a =
     }
 
 -- only the rows of the windows and the starts of those rows matter
-pub proper-cong : (w v : Windows) (p q : Plan) → Alike w v → ((i : ℕ) → i < w .count → p i ≡ q i) → Proper w p → Proper v q
-proper-cong w v p q a f = proper-offset 0 0 w v p q (alike-offset w v a) (λ i l. omega (arith, f i l))
+pub proper-cong : (w v : Windows) (p q : Plan) → SameRows w v → ((i : ℕ) → i < w .count → p i ≡ q i) → Proper w p → Proper v q
+proper-cong w v p q a f = proper-offset 0 0 w v p q (same-rows-offset w v a) (λ i l. omega (arith, f i l))
 
-pub no-plan-cong : (w v : Windows) → Alike w v → NoPlan w → NoPlan v
-no-plan-cong w v a = no-plan-offset 0 0 v w (alike-offset v w (alike-turned w v a))
+pub no-plan-cong : (w v : Windows) → SameRows w v → NoPlan w → NoPlan v
+no-plan-cong w v a = no-plan-offset 0 0 v w (same-rows-offset v w (same-rows-turned w v a))

@@ -1,11 +1,35 @@
--- Gaps and what they cost. A gap is a maximal run of g ≥ 1 empty slots with a job before it and one after it.
-use Prim.Native.Nat.{ℕ, zero, suc, _+_, min}
-use mathlib.Core.Bool.{Bool, cond}
+-- Gaps and what they cost. A plan is given here by its full slots.
+use Prim.Native.Nat.{ℕ, zero, suc, _+_, _≤_, _<_, min}
+use mathlib.Core.Path.{_≡_}
+use mathlib.Core.Bool.{Bool, true, false, cond}
 use mathlib.Core.List.{List, [], _∷_}
 use lib.Dec.{leb}
 use Rattle.day.specs.declared.Power.{Power}
 use Rattle.day.specs.declared.Day.{Day}
 use Rattle.day.specs.Plan.{Plan, taken}
+
+-- the slots from a on and before b are empty
+abbrev pub EmptyFrom : (ℕ → Bool) → ℕ → ℕ → Type 0
+EmptyFrom full a b = (t : ℕ) → a ≤ t → t < b → full t ≡ false
+
+-- a gap: a maximal run of g ≥ 1 empty slots, from `from` on, with a job somewhere before it and one after it
+pub record Gap (full : ℕ → Bool) (slots from g : ℕ) : Type 0 where
+  pub some : 1 ≤ g
+  pub empty : EmptyFrom full from (from + g)
+  pub maximal : (a b : ℕ) → a ≤ from → from + g ≤ b → b ≤ slots → EmptyFrom full a b → (a ≡ from) × (b ≡ from + g)
+  pub job-before : (t : ℕ) × (t < from) × (full t ≡ true)
+  pub job-after : (t : ℕ) × (from + g ≤ t) × (t < slots) × (full t ≡ true)
+
+-- no gap begins at t or later and before e
+abbrev pub NoGap : (ℕ → Bool) → ℕ → ℕ → ℕ → Type 0
+NoGap full slots t e = (from g : ℕ) → t ≤ from → from < e → Gap full slots from g → ⊥
+
+-- the lengths of the gaps that begin at t or later, in their order and with none left out
+pub data Listed (full : ℕ → Bool) (slots : ℕ) : ℕ → List ℕ → Type 0 where
+  none : {t : ℕ} → NoGap full slots t slots → Listed full slots t []
+  next : {t g : ℕ} {gs : List ℕ} (from : ℕ) → t ≤ from → NoGap full slots t from → Gap full slots from g
+      → Listed full slots (suc from) gs
+      → Listed full slots t (g ∷ gs)
 
 -- the price of a gap of g slots: the machine stays awake at 1 a slot, or sleeps and pays to wake
 unfoldable pub price : Power → ℕ → ℕ
@@ -14,6 +38,8 @@ price power g = min (power .wake) g
 -- whether the machine sleeps through a gap of g slots
 unfoldable pub asleep : Power → ℕ → Bool
 asleep power g = leb (power .wake) g
+
+-- The gaps are listed by a walk over the slots; proofs/GapRuns.antt shows that it lists the gaps and nothing else.
 
 -- the run of g empty slots that a job ends: a gap if it has a slot
 unfoldable pub ended : ℕ → List ℕ → List ℕ

@@ -6,11 +6,10 @@ use native.Mathlib.Nat.{zero-add}
 use native.Mathlib.Omega.{arith}
 use lib.ListN.{length, length-append, List·getD-append}
 use lib.Seq.{getD-append-add}
-use Rattle.day.specs.Windows.{Windows, at}
+use Rattle.day.specs.Windows.{SameRows, Windows, at}
 use Rattle.day.specs.Change.{beside, joined}
 use Rattle.day.specs.Check.{Accepted}
 use Rattle.day.proofs.Cases.{give}
-use Rattle.day.proofs.Plan.{Alike}
 use Rattle.day.proofs.Joined.{on-row, beside-first, beside-after}
 use Rattle.demands.specs.Run.{Run, list}
 use Rattle.demands.specs.SideBySide.{Joins, JoinedAccepted}
@@ -24,33 +23,22 @@ append-beside xs ys n i long =
     (λ k l. ap (λ x. at (xs ++ ys) (x + k)) (sym long) ∙ getD-append-add xs ys k 0 ∙ sym (beside-after n (at xs) (at ys) k))
 
 module _ (g : ℕ) (first second whole : Run) (joins : Joins g first second whole) where
-  pub joined-alike : Alike (joined (list first) (list second)) (list whole)
-  joined-alike =
-      record {
-        count = ap length (joins .releases) ∙ length-append (first .releases) (second .releases);
-        release = λ i l.
-            sym (ap (λ xs. at xs i) (joins .releases) ∙ append-beside (first .releases) (second .releases) (list first .count) i refl);
-        deadline = λ i l.
-            sym (ap (λ xs. at xs i) (joins .deadlines)
-            ∙ append-beside (first .deadlines) (second .deadlines) (list first .count) i (joins .as-many));
-      }
-
   -- the rows of the two, as rows of the whole
 
   first-row : (i : ℕ) → i < list first .count
       → (list whole .release i ≡ list first .release i) × (list whole .deadline i ≡ list first .deadline i)
   first-row i l = (
-    sym (joined-alike .release i (omega arith)) ∙ beside-first (list first .count) (list first .release) (list second .release) i l,
-    sym (joined-alike .deadline i (omega arith)) ∙ beside-first (list first .count) (list first .deadline) (list second .deadline) i l,
+    sym (joins .rows .release i (omega arith)) ∙ beside-first (list first .count) (list first .release) (list second .release) i l,
+    sym (joins .rows .deadline i (omega arith)) ∙ beside-first (list first .count) (list first .deadline) (list second .deadline) i l,
   )
 
   second-row : (k : ℕ) → k < list second .count
       → (list whole .release (list first .count + k) ≡ list second .release k)
       × (list whole .deadline (list first .count + k) ≡ list second .deadline k)
   second-row k l = (
-    sym (joined-alike .release (list first .count + k) (omega arith))
+    sym (joins .rows .release (list first .count + k) (omega arith))
         ∙ beside-after (list first .count) (list first .release) (list second .release) k,
-    sym (joined-alike .deadline (list first .count + k) (omega arith))
+    sym (joins .rows .deadline (list first .count + k) (omega arith))
         ∙ beside-after (list first .count) (list first .deadline) (list second .deadline) k,
   )
 
@@ -68,8 +56,8 @@ module _ (g : ℕ) (first second whole : Run) (joins : Joins g first second whol
 
   both-accepted : Accepted (whole .day) (list whole) → Accepted (whole .day) (list first) × Accepted (whole .day) (list second)
   both-accepted old = (
-    part-accepted (list first) 0 (omega (arith, joined-alike .count)) (λ i l. rw zero-add (first-row i l)) old,
-    part-accepted (list second) (list first .count) (omega (arith, joined-alike .count)) second-row old,
+    part-accepted (list first) 0 (omega (arith, joins .rows .count)) (λ i l. rw zero-add (first-row i l)) old,
+    part-accepted (list second) (list first .count) (omega (arith, joins .rows .count)) second-row old,
   )
 
 pub joined-accepted : JoinedAccepted

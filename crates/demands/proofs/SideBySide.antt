@@ -8,13 +8,13 @@ use lib.ListN.{length, take, length-append}
 use lib.Seq.{length-take-le, getD-take, ext-getD}
 use Rattle.day.specs.declared.Answer.{Answer}
 use Rattle.day.specs.declared.Day.{Day}
-use Rattle.day.specs.Windows.{Windows, at}
+use Rattle.day.specs.Windows.{SameRows, Windows, at}
 use Rattle.day.specs.Plan.{Plan}
 use Rattle.day.specs.Gap.{cost}
 use Rattle.day.specs.Answer.{done}
 use Rattle.day.specs.Change.{beside, joined, joining, Apart}
 use Rattle.day.proofs.Cases.{give}
-use Rattle.day.proofs.Plan.{Alike, alike-turned, proper-cong, no-plan-cong}
+use Rattle.day.proofs.Plan.{same-rows-turned, proper-cong, no-plan-cong}
 use Rattle.day.proofs.Best.{best-cong, best-costs, best-unique}
 use Rattle.day.proofs.Joined.{on-row, beside-first, beside-after}
 use Rattle.day.proofs.JoinedCost.{joining-both, joining-first-empty, joining-second-empty}
@@ -49,9 +49,6 @@ take-beside n m xs ys zs h k l f =
     ∙ sym (append-beside (take n xs) (take m ys) n i (length-take-le n xs h))))
 
 module _ (g : ℕ) (first second whole : Run) (joins : Joins g first second whole) where
-  abbrev alike : Alike (joined (list first) (list second)) (list whole)
-  alike = joined-alike g first second whole joins
-
   apart : Apart (first .day .power) g (g + first .day .power .wake) (list first) (list second)
   apart = apart-by-wake (first .day .power) g (list first) (list second) (joins .by-g) (joins .wake-later)
 
@@ -86,7 +83,7 @@ module _ (g : ℕ) (first second whole : Run) (joins : Joins g first second whol
         give (beside-best apart second-in-day p q (b .best) (c .best))
         (λ both.
         give (best-cong (first .day) (list whole) pair r r
-        (alike-turned pair (list whole) alike) (λ i l. refl) (e .best))
+        (same-rows-turned pair (list whole) (joins .rows)) (λ i l. refl) (e .best))
         (λ there.
         record {
           code = best-code whole d;
@@ -99,7 +96,7 @@ module _ (g : ℕ) (first second whole : Run) (joins : Joins g first second whol
                 ap (λ (a : Answer). a .first) (b .answer),
                 ap (λ (a : Answer). a .first) (c .answer),
                 ap (λ (a : Answer). a .first) (e .answer),
-                ap (λ n. cost (first .day) n r) (alike .count),
+                ap (λ n. cost (first .day) n r) (joins .rows .count),
                 best-costs (first .day) pair
                     (beside (list first .count) p q) r (both .best)
                     there,
@@ -120,11 +117,11 @@ module _ (g : ℕ) (first second whole : Run) (joins : Joins g first second whol
         record {
           code = t .code;
           starts =
-              ap (λ n. take n (whole .starts-after)) (alike .count)
+              ap (λ n. take n (whole .starts-after)) (joins .rows .count)
               ∙ take-beside (list first .count) (list second .count) (first .starts-after) (second .starts-after) (whole .starts-after)
               (omega (arith, b .long, one .taken .places))
               (omega (arith, done-best second two y .long, two .taken .places))
-              (omega (arith, d .long, all .taken .places, alike .count))
+              (omega (arith, d .long, all .taken .places, joins .rows .count))
               (t .same);
           with-wake = λ h l. omega (arith, t .costs, joining-both (first .day .power) (list first) (list second) h l);
           no-wake =
@@ -133,7 +130,7 @@ module _ (g : ℕ) (first second whole : Run) (joins : Joins g first second whol
         }))
         (λ n.
         absurd (n .none (beside (list first .count) p q)
-        (proper-cong pair (list whole) _ _ alike (λ i l. refl)
+        (proper-cong pair (list whole) _ _ (joins .rows) (λ i l. refl)
         (beside-proper apart p q (b .best .proper) (c .best .proper)))))
         (best-or-none whole all)))
 
@@ -142,7 +139,7 @@ module _ (g : ℕ) (first second whole : Run) (joins : Joins g first second whol
         record {
           only-if = λ code.
               give (no-plan-cong (list whole) pair
-              (alike-turned pair (list whole) alike) (seven-exactly whole all .only-if code))
+              (same-rows-turned pair (list whole) (joins .rows)) (seven-exactly whole all .only-if code))
               (λ none.
               ⊎-elim
               (λ b. inr (seven-exactly second two .whenever (rest-no-plan apart none p (b .best .proper))))

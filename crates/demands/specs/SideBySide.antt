@@ -4,8 +4,10 @@ use Prim.Native.Nat.{ℕ, _+_, _≤_, _<_}
 use mathlib.Core.Path.{_≡_}
 use mathlib.Core.List.{_++_}
 use mathlib.Core.Logic.{_⊎_}
-use lib.ListN.{length, take}
+use lib.ListN.{take}
+use Rattle.day.specs.Windows.{SameRows}
 use Rattle.day.specs.Answer.{done, no-plan}
+use Rattle.day.specs.Change.{joined}
 use Rattle.day.specs.Check.{Accepted}
 use Rattle.demands.specs.Run.{Run, list, Served}
 
@@ -13,10 +15,7 @@ use Rattle.demands.specs.Run.{Run, list, Served}
 pub record Joins (g : ℕ) (first second whole : Run) : Type 0 where
   pub day : second .day ≡ first .day
   pub whole-day : whole .day ≡ first .day
-  pub releases : whole .releases ≡ first .releases ++ second .releases
-  pub deadlines : whole .deadlines ≡ first .deadlines ++ second .deadlines
-  -- the first has a deadline for each row, so that the deadlines of the second follow where its releases do
-  pub as-many : length (first .deadlines) ≡ length (first .releases)
+  pub rows : SameRows (joined (list first) (list second)) (list whole)
   pub by-g : (i : ℕ) → i < list first .count → list first .deadline i ≤ g
   pub wake-later : (i : ℕ) → i < list second .count → g + first .day .power .wake ≤ list second .release i
 

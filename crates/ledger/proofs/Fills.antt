@@ -7,42 +7,44 @@ use native.Mathlib.Omega.{arith}
 use Rattle.day.specs.declared.Power.{Power}
 use Rattle.day.specs.Gap.{asleep}
 use Rattle.day.specs.Refusal.{First}
-use Rattle.day.proofs.Cases.{on, on-eq, on-le, not-both}
+use Rattle.day.proofs.Cases.{give, on, on-eq, on-le, not-both}
 use Rattle.day.proofs.Refusal.{first-or-none}
 use Rattle.ledger.specs.declared.Fill.{Fill}
 use Rattle.ledger.specs.declared.Fill.the-variants.{Job, Before, Awake, Asleep, After}
 use Rattle.ledger.specs.Fills.{Empty, Busy, InGap, Fills, by-job, before-first, after-last, in-awake, in-asleep}
+use Rattle.ledger.proofs.InGap.{GapAround, around, in-gap}
 
 pub not-busy : (row : ℕ → ℕ) (t : ℕ) → (Busy row t → ⊥) → Empty row t
 not-busy row t n = on-eq (row t) 0 (λ e. e) (λ b. absurd (n b))
 
 module _ {slots : ℕ} {row : ℕ → ℕ} {t : ℕ} where
   gap-empty : {g : ℕ} → InGap slots row t g → Empty row t
-  gap-empty p = p .empty t (p .after-last) (p .before-next)
+  gap-empty p = give (around p) (λ q. q .empty t (q .after-last) (q .before-next))
 
   -- two gaps around one slot begin and end together
-  same-last : {g h : ℕ} (p : InGap slots row t g) (q : InGap slots row t h) → p .last ≤ q .last
+  same-last : {g h : ℕ} (p : GapAround slots row t g) (q : GapAround slots row t h) → p .last ≤ q .last
   same-last p q =
       on-le (p .last) (q .last) (λ l. l)
       (λ l. absurd (p .job-before (q .empty (p .last) l (omega (arith, p .after-last, q .before-next)))))
 
-  same-end : {g h : ℕ} → InGap slots row t g → InGap slots row t h → h ≤ g
+  same-end : {g h : ℕ} → GapAround slots row t g → GapAround slots row t h → h ≤ g
   same-end {g} {h} p q =
       on-le h g (λ l. l)
       (λ l. absurd (p .job-after (q .empty (p .last + g + 1) (omega (arith, same-last q p)) (omega (arith, same-last p q)))))
 
   gap-unique : {g h : ℕ} → InGap slots row t g → InGap slots row t h → g ≡ h
-  gap-unique p q = omega (arith, same-end p q, same-end q p)
+  gap-unique p q = omega (arith, same-end (around p) (around q), same-end (around q) (around p))
 
   -- asleep and awake are different gaps
   gap-one-way : (power : Power) {g h : ℕ} → InGap slots row t g → asleep power g ≡ false → InGap slots row t h → asleep power h ≡ true → ⊥
   gap-one-way power p e q f = not-both (rw (gap-unique p q) f) e
 
   before-gap : {g : ℕ} → ((u : ℕ) → u ≤ t → Empty row u) → InGap slots row t g → ⊥
-  before-gap none p = p .job-before (none (p .last) (omega (arith, p .after-last)))
+  before-gap none p = give (around p) (λ q. q .job-before (none (q .last) (omega (arith, q .after-last))))
 
   after-gap : {g : ℕ} (last : ℕ) → last < t → ((u : ℕ) → last < u → u < slots → Empty row u) → InGap slots row t g → ⊥
-  after-gap {g} last h none p = p .job-after (none (p .last + g + 1) (omega (arith, p .before-next)) (p .within))
+  after-gap {g} last h none p =
+      give (around p) (λ q. q .job-after (none (q .last + g + 1) (omega (arith, q .before-next)) (q .within)))
 
   pub fills-unique : {power : Power} {f h : Fill} → t < slots → Fills power slots row t f → Fills power slots row t h → f ≡ h
   fills-unique l (by-job b) (by-job c) = refl
@@ -119,7 +121,8 @@ module _ (power : Power) (slots : ℕ) (row : ℕ → ℕ) (t : ℕ) (within : t
 
       gap : InGap slots row t (n - suc (p .at))
       gap =
-          record {
+          in-gap
+          (record {
             last = p .at;
             job-before = p .job;
             after-last = p .earlier;
@@ -128,7 +131,7 @@ module _ (power : Power) (slots : ℕ) (row : ℕ → ℕ) (t : ℕ) (within : t
             before-next = omega (arith, next, q .fault .0);
             job-after = rw next (q .fault .1);
             within = omega (arith, next, q .within);
-          }
+          })
 
   -- something fills each slot
   pub fills-some : (f : Fill) × Fills power slots row t f

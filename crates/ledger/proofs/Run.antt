@@ -13,6 +13,7 @@ use Rattle.claim.proofs.Rows.{holds-job-true, holds-job-false, next-within}
 use Rattle.ledger.specs.declared.Fill.the-variants.{Before, After}
 use Rattle.ledger.specs.Fills.{Empty, Busy, InGap, Fills, before-first, after-last}
 use Rattle.ledger.specs.Run.{RunStart}
+use Rattle.ledger.proofs.InGap.{in-gap}
 use Rattle.ledger.proofs.Fills.{not-busy}
 
 -- the next job comes later than an empty slot
@@ -51,7 +52,8 @@ module _ {rows : List ℕ} {slot start : ℕ} (here : Empty (at rows) slot) (run
   run-gap {end} l some next e =
       let within : end < length rows = omega (arith, next-within next (omega arith)) in
       let last : start - 1 + (end - start) + 1 ≡ end = omega (arith, run .earlier, next .later) in
-      record {
+      in-gap
+      (record {
         last = start - 1;
         job-before = run .job (omega arith);
         after-last = omega (arith, run .earlier);
@@ -59,4 +61,4 @@ module _ {rows : List ℕ} {slot start : ℕ} (here : Empty (at rows) slot) (run
         before-next = omega (arith, last, next-after here next within);
         job-after = rw last (λ z. not-both (next .job within) (holds-job-false (at rows) end z));
         within = omega (arith, last);
-      }
+      })

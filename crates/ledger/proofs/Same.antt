@@ -8,6 +8,7 @@ use Rattle.day.specs.declared.Power.{Power}
 use Rattle.day.specs.Windows.{at}
 use Rattle.day.specs.Plan.{Plan}
 use Rattle.day.specs.Check.{most-slots}
+use Rattle.day.proofs.Cases.{give}
 use Rattle.claim.specs.Rows.{row-at, RowsBySlot}
 use Rattle.claim.proofs.Rows.{rows-each, rows-cut}
 use Rattle.ledger.specs.declared.Fill.{Fill}
@@ -15,14 +16,18 @@ use Rattle.ledger.specs.declared.Counts.{Counts}
 use Rattle.ledger.specs.Fills.{InGap, Fills, by-job, before-first, after-last, in-awake, in-asleep}
 use Rattle.ledger.specs.Count.{Count, InColumn, Counted}
 use Rattle.ledger.proofs.Count.{count-same}
+use Rattle.ledger.proofs.InGap.{around, in-gap}
 
 -- two functions give the same row for each slot of the day
 abbrev Agree : ℕ → (ℕ → ℕ) → (ℕ → ℕ) → Type 0
 Agree slots row other = (u : ℕ) → u < slots → row u ≡ other u
 
 gap-same : {slots : ℕ} {row other : ℕ → ℕ} {t g : ℕ} → Agree slots row other → InGap slots row t g → InGap slots other t g
-gap-same {slots} {row} {other} {t} {g} agree p =
-    record {
+gap-same {slots} {row} {other} {t} {g} agree in-row =
+    give (around in-row)
+    (λ p.
+    in-gap
+    (record {
       last = p .last;
       job-before = λ e. p .job-before (agree (p .last) (omega (arith, p .within)) ∙ e);
       after-last = p .after-last;
@@ -30,7 +35,7 @@ gap-same {slots} {row} {other} {t} {g} agree p =
       before-next = p .before-next;
       job-after = λ e. p .job-after (agree (p .last + g + 1) (p .within) ∙ e);
       within = p .within;
-    }
+    }))
 
 fills-same : {power : Power} {slots : ℕ} {row other : ℕ → ℕ} {t : ℕ} {f : Fill} → Agree slots row other → t < slots
     → Fills power slots row t f → Fills power slots other t f

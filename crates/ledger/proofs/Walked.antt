@@ -11,6 +11,7 @@ use Rattle.ledger.specs.declared.Fill.the-variants.{Job, Before, Awake, 
 use Rattle.ledger.specs.declared.Counts.{Counts}
 use Rattle.ledger.specs.Fills.{Empty, Busy, InGap, by-job, before-first, after-last, in-awake, in-asleep}
 use Rattle.ledger.specs.Count.{none, CountedTo, Counted}
+use Rattle.ledger.proofs.InGap.{in-gap}
 use Rattle.ledger.proofs.Fills.{not-busy}
 use Rattle.ledger.proofs.Column.{gain, counted-block}
 
@@ -92,7 +93,8 @@ module _ {power : Power} {slots : ℕ} {row : ℕ → ℕ} where
       give (p .last (omega (arith, p .sum)))
       (λ behind.
       let next : slot - empty - 1 + empty + 1 ≡ slot = omega (arith, behind .0, p .sum) in
-      record {
+      in-gap
+      (record {
         last = slot - empty - 1;
         job-before = behind .1;
         after-last = omega (arith, behind .0);
@@ -100,7 +102,7 @@ module _ {power : Power} {slots : ℕ} {row : ℕ → ℕ} where
         before-next = omega (arith, next);
         job-after = rw next busy;
         within = omega (arith, next);
-      })
+      }))
 
   -- the slots that wait are counted awake or asleep
   gap-settled : {first job awake asleep empty slot dark : ℕ} → Walked power slots row first job awake asleep empty slot → slot < slots

@@ -3,7 +3,8 @@ use Prim.Native.Nat.{ℕ, _+_, _≤_, _<_}
 use mathlib.Core.Path.{_≡_}
 use mathlib.Core.Bool.{true, false}
 use Rattle.day.specs.declared.Power.{Power}
-use Rattle.day.specs.Gap.{asleep}
+use Rattle.day.specs.Gap.{Gap, asleep}
+use Rattle.claim.specs.Rows.{holds-job}
 use Rattle.ledger.specs.declared.Fill.{Fill}
 use Rattle.ledger.specs.declared.Fill.the-variants.{Job, Before, Awake, Asleep, After}
 
@@ -13,15 +14,12 @@ Empty row t = row t ≡ 0
 abbrev pub Busy : (ℕ → ℕ) → ℕ → Type 0
 Busy row t = row t ≡ 0 → ⊥
 
--- slot t lies in a gap of g slots: those between a job at slot `last` and the next job, all of them empty
+-- slot t lies in a gap of g slots
 pub record InGap (slots : ℕ) (row : ℕ → ℕ) (t g : ℕ) : Type 0 where
-  pub last : ℕ
-  pub job-before : Busy row last
-  pub after-last : last < t
-  pub empty : (u : ℕ) → last < u → u ≤ last + g → Empty row u
-  pub before-next : t ≤ last + g
-  pub job-after : Busy row (last + g + 1)
-  pub within : last + g + 1 < slots
+  pub from : ℕ
+  pub gap : Gap (holds-job row) slots from g
+  pub begun : from ≤ t
+  pub not-over : t < from + g
 
 pub data Fills (power : Power) (slots : ℕ) (row : ℕ → ℕ) (t : ℕ) : Fill → Type 0 where
   by-job : Busy row t → Fills power slots row t (Job (row t))
