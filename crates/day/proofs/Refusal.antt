@@ -118,8 +118,9 @@ module _ {Check : Answer → Type 0} where
   then-passed k a b (stops p) e q = absurd (k .not-done a p e)
   then-passed k a b (goes-on n p) e q = goes-on n q
 
-  -- a check that passed had nothing to refuse
-  pub passed-clear : IsCheck Check → (a : Answer) → (Check then Passed) a → a .code ≡ done → (b : Answer) → Check b → ⊥
+  -- before an answer of `done` the check had nothing to refuse
+  pub passed-clear : {Next : Answer → Type 0} → IsCheck Check → (a : Answer) → (Check then Next) a → a .code ≡ done → (b : Answer)
+      → Check b → ⊥
   passed-clear k a (stops p) e = absurd (k .not-done a p e)
   passed-clear k a (goes-on n p) e = n
 

@@ -12,7 +12,7 @@ use Rattle.day.specs.Answer.{says, done, no-plan, long-input}
 use Rattle.day.specs.Refusal.{_then_, stops, goes-on, Refuses}
 use Rattle.day.specs.Check.{Accepted, most-jobs}
 use Rattle.day.proofs.Cases.{on-eq, on-le}
-use Rattle.day.proofs.Refusal.{then-clear, then-group, then-next, clear-first, clear-next, no-fault, past}
+use Rattle.day.proofs.Refusal.{then-clear, then-group, then-next, passed-clear, clear-first, clear-next, no-fault, past}
 use Rattle.day.proofs.Check.{clear-accepted, accepted-clear}
 use Rattle.dayfile.specs.declared.Reading.{Reading}
 use Rattle.dayfile.specs.Format.{count-in, release-in, deadline-in}
@@ -22,7 +22,7 @@ use Rattle.dayfile.proofs.Unique.{file-check-unique}
 use Rattle.claim.specs.Claim.{ClaimCheck}
 use Rattle.claim.proofs.Claim.{fit-clear}
 use Rattle.planner.specs.Table.{need}
-use Rattle.planner.specs.Promise.{Verdict, Planned, PlanCheck}
+use Rattle.planner.specs.Promise.{Planned, PlanCheck}
 use Rattle.planner.proofs.Promise.{code-of, planned-refused, plan-is-check}
 use Rattle.ledger.specs.declared.LedgerAnswer.{LedgerAnswer}
 use Rattle.ledger.specs.Promise.{Ledgered}
@@ -44,11 +44,7 @@ use Rattle.report.specs.File.{
 module _ {day : Day} {w : Windows} {starts table p t : List ℕ} {n : ℕ} {a : Answer}
     (A : Planned (PlanCheck day w starts table) n day w starts table a p t) (e : a .code ≡ done) where
   found-clear : (b : Answer) → PlanCheck day w starts table b → ⊥
-  found-clear = clear-of (A .answer)
-    where
-      clear-of : (PlanCheck day w starts table then Verdict day w) a → (b : Answer) → PlanCheck day w starts table b → ⊥
-      clear-of (stops q) = absurd (plan-is-check day w starts table .not-done a q e)
-      clear-of (goes-on clear q) = clear
+  found-clear = passed-clear (plan-is-check day w starts table) a (A .answer) e
 
   pub found-accepted : Accepted day w
   found-accepted = clear-accepted (clear-first found-clear)

@@ -1,5 +1,5 @@
 -- Laws of the printed lines: how they are made one after the other. Assumes nothing.
-use Prim.Native.Nat.{ℕ, zero, suc, _+_, _-_, _≤_, _<_, min}
+use Prim.Native.Nat.{ℕ, zero, suc, _+_, _-_, _≤_, _<_}
 use mathlib.Core.Path.{_≡_, refl, sym, _∙_, ap}
 use mathlib.Core.List.{List, [], _∷_, _++_, append-assoc, append-nil}
 use native.Mathlib.Nat.{zero-add}
@@ -10,7 +10,6 @@ use lib.Seq.{take-suc}
 use borrow.Author.Tests.{eq-eqb, ne-eqb}
 use Rattle.day.specs.declared.Answer.{Answer}
 use Rattle.day.specs.Answer.{done}
-use Rattle.day.specs.Check.{most-jobs}
 use Rattle.ledger.specs.declared.Counts.{Counts}
 use Rattle.report.specs.declared.text.Text.{Text}
 use Rattle.report.specs.Append.{Appended}
@@ -38,7 +37,7 @@ unfolding row-lines
 row-lines-next start n = refl
 
 pub lines-done : (answer : Answer) (count : ℕ) (start : ℕ → ℕ) (counts : Counts) → answer .code ≡ done
-    → lines answer count start counts ≡ plan-line answer ++ (row-lines start (min count most-jobs) ++ slots-line counts)
+    → lines answer count start counts ≡ plan-line answer ++ (row-lines start count ++ slots-line counts)
 unfolding lines
 lines-done answer count start counts e = rw (eq-eqb (answer .code) done e)
 

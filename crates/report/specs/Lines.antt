@@ -1,5 +1,5 @@
 -- The printed lines.
-use Prim.Native.Nat.{ℕ, zero, suc, _-_, min}
+use Prim.Native.Nat.{ℕ, zero, suc, _-_}
 use mathlib.Core.Path.{_≡_}
 use mathlib.Core.Bool.{cond}
 use mathlib.Core.List.{List, [], _∷_, _++_}
@@ -7,7 +7,6 @@ use lib.Dec.{eqb}
 use lib.ListN.{length, replicate}
 use Rattle.day.specs.declared.Answer.{Answer}
 use Rattle.day.specs.Answer.{done}
-use Rattle.day.specs.Check.{most-jobs}
 use Rattle.ledger.specs.declared.Counts.{Counts}
 use Rattle.report.specs.declared.text.Text.{Text}
 use Rattle.report.specs.Decimal.{decimal}
@@ -54,7 +53,7 @@ slots-line counts =
 unfoldable pub lines : Answer → ℕ → (ℕ → ℕ) → Counts → List ℕ
 lines answer count start counts =
     plan-line answer
-    ++ cond (eqb (answer .code) done) (row-lines start (min count most-jobs) ++ slots-line counts) []
+    ++ cond (eqb (answer .code) done) (row-lines start count ++ slots-line counts) []
 
 -- the text has these bytes, and zeros after them
 pub record Prints (bytes : List ℕ) (text : Text) : Type 0 where

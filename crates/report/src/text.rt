@@ -10,6 +10,7 @@ ghost use Prim.Native.Nat.{_+_, _*_, _<_, _≤_, min};
 ghost use mathlib.Core.List.{[], _∷_, _++_};
 ghost use lib.ListN.{length, replicate};
 ghost use Rattle.day.specs.Windows.{at};
+ghost use Rattle.day.specs.Check.{most-jobs};
 ghost use Rattle.report.specs.Decimal.{decimal};
 ghost use Rattle.report.specs.Append.{Appended};
 ghost use Rattle.report.specs.Lines.{blank, line-feed, spaced, line, row-line, row-lines, Prints, lines};
@@ -20,9 +21,9 @@ pub struct Text {
     pub len: usize,
 }
 
-// The text for an answer; rows and ledger appear only where the answer is done.
+// The text for an answer; rows, the first 40 where there are more, and ledger appear only where the answer is done.
 pub fn render(answer: Answer, count: u16, starts: &[u16], counts: Counts) -> Text
-    ensures { λ t. ⌜ Prints (lines answer count (at (now (starts .entry))) counts) t ⌝ }
+    ensures { λ t. ⌜ Prints (lines answer (min count most-jobs) (at (now (starts .entry))) counts) t ⌝ }
 {
     let mut bytes = empty();
     let numbers = [answer.code, answer.first];
@@ -53,7 +54,7 @@ fn empty() -> [u8; 512]
 
 // How many rows have a line.
 fn shown(count: u16) -> usize
-    ensures { λ r. ⌜ r ≡ min count 40 ⌝ }
+    ensures { λ r. ⌜ r ≡ min count most-jobs ⌝ }
 {
     if count < MOST_JOBS {
         wide(count)

@@ -1,5 +1,6 @@
 -- `report::report` meets its contract: what planning gives is printed. Assumes nothing.
 use borrow.Author.Needs.{needs}
+use Rattle.report.proofs.Unique.{all-rows-shown}
 use Rattle.report.proofs.report.Statement.{statement}
 use Rattle.report.proofs.report.Tie as tie
 
@@ -19,7 +20,14 @@ same-length : tie.Need-same-length
 same-length c = search needs
 
 returns : tie.Need-returns
-returns c = search needs
+returns c =
+    let planned = c .before .before .before .before .before .plan-file in
+    record {
+      outcome = planned .result;
+      starts = planned .last .1 .0;
+      reported = planned .ensures;
+      prints = rw (all-rows-shown (planned .ensures)) at (c .render .ensures);
+    }
 
 pub report-spec : {M : Type 1} → statement M
 report-spec = tie.close (tie.spec slice-aggregate-plan-file plan-file-requires slice-aggregate-render render-requires same-length returns)
