@@ -45,7 +45,7 @@ pub list-is-check : {day : Day} {w : Windows} → IsCheck (ListCheck day w)
 list-is-check = then-is-check slots-is-check (then-is-check power-is-check jobs-is-check)
 
 -- whether a row is bad is known
-bad-row-known : (slots : ℕ) (w : Windows) (i : ℕ) → BadRow slots w i ⊎ (BadRow slots w i → ⊥)
+pub bad-row-known : (slots : ℕ) (w : Windows) (i : ℕ) → BadRow slots w i ⊎ (BadRow slots w i → ⊥)
 bad-row-known slots w i =
     on-le (w .deadline i) (w .release i) (λ h. inl (inl h))
     (λ h. on-le (w .deadline i) slots (λ l. inr (⊎-elim (λ z. omega arith) (λ z. omega arith))) (λ l. inl (inr l)))

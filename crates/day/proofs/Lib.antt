@@ -2,6 +2,7 @@
 pub mod Cases
 pub mod Refusal
 pub mod Check
+pub mod Decided
 pub mod Zero
 pub mod FirstFilled
 pub mod Numbering

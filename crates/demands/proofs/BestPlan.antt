@@ -27,7 +27,7 @@ pub accepted-too : {day : Day} {w v : Windows} → Accepted day w → GoodRows m
 accepted-too old rows = record { some-slots = old .some-slots; slots = old .slots; wake = old .wake; rows = rows }
 
 -- what is taken is not refused
-taken-clear : (run : Run) → Taken run → (b : Answer) → PlanCheck (run .day) (list run) (run .starts) (run .table) b → ⊥
+pub taken-clear : (run : Run) → Taken run → (b : Answer) → PlanCheck (run .day) (list run) (run .starts) (run .table) b → ⊥
 taken-clear run taken =
     then-clear (accepted-clear (taken .accepted))
     (then-clear (λ b r. omega (arith, r .fault, taken .places)) (λ b r. omega (arith, r .fault, taken .table)))

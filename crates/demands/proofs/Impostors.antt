@@ -1,12 +1,14 @@
--- No impostor keeps its promise: each planner fails at an example, the ledger at two plans of one row. Assumes nothing.
+-- The wrong programs of document 01 keep no promise: examples on which each goes wrong. Assumes nothing.
 use Prim.Native.Nat.{ℕ, zero, suc, _≤_, _<_}
 use mathlib.Core.Path.{_≡_, refl, sym, _∙_, ap}
 use mathlib.Core.List.{List, [], _∷_, _++_, map}
+use mathlib.Core.Logic.{inl}
 use native.Mathlib.Omega.{arith}
-use lib.ListN.{length, getD, take, drop, replicate, length-replicate}
+use lib.ListN.{length, getD, drop, replicate, length-replicate}
 use Rattle.day.specs.declared.Answer.{Answer}
 use Rattle.day.specs.declared.Day.{Day}
 use Rattle.day.specs.Windows.{Windows, windows, at}
+use Rattle.day.specs.Plan.{Plan}
 use Rattle.day.specs.Answer.{done}
 use Rattle.day.specs.Check.{Accepted}
 use Rattle.day.proofs.Cases.{give}
@@ -18,11 +20,26 @@ use Rattle.claim.proofs.Rows.{row-at-none, row-at-here, row-at-other}
 use Rattle.ledger.specs.declared.Counts.{Counts}
 use Rattle.ledger.specs.Promise.{Ledgered}
 use Rattle.ledger.proofs.Outer.{before-first-job}
-use Rattle.demands.specs.Run.{Promised}
+use Rattle.demands.specs.Run.{Taken}
 use Rattle.demands.specs.Examples.{exactly, Is, Example, Shows, day-of, Each, none, one, examples}
-use Rattle.demands.specs.Impostors.{Input, Planner, run-of, Always, Seven, Fixed, Writeless, FirstRepeated, Ledger, Planless, NoImpostor}
+use Rattle.demands.specs.Impostors.{
+  Input,
+  Planner,
+  run-of,
+  KeepsPromise,
+  Does,
+  Seven,
+  Fixed,
+  Writeless,
+  Invented,
+  Ledger,
+  Planless,
+  NoImpostor,
+}
+use Rattle.demands.proofs.BestPlan.{answers-taken}
 use Rattle.demands.proofs.Computed.{accepted-test}
 use Rattle.demands.proofs.Examples.{examples-hold}
+use Rattle.demands.proofs.WrongPrograms.{always-seven, fixed-plan, no-starts, first-placed, counts-without-plan}
 
 each-at : {A : Type 0} {P : A → Type 0} {xs : List A} → Each P xs → (i : ℕ) (other : A) → i < length xs → P (getD xs i other)
 each-at none i other l = absurd (omega arith)
@@ -47,7 +64,7 @@ input-of e wake starts places =
       table = replicate places 0;
     }
 
--- P2, with another number where the start goes; P4; P5 and its rows swapped
+-- P2, with another number where the start goes; P4; P5 and its rows swapped; P7
 
 alone : Input
 alone = input-of (example-at 2) 0 (5 ∷ []) 32
@@ -61,7 +78,10 @@ rows = input-of (example-at 6) 3 (0 ∷ 0 ∷ []) 243
 swapped : Input
 swapped = input-of (example-at 7) 3 (0 ∷ 0 ∷ []) 243
 
-module _ (planner : Planner) (promised : Always Promised planner) where
+fixed-rows : Input
+fixed-rows = input-of (example-at 9) 0 (0 ∷ 0 ∷ []) 192
+
+module _ (planner : Planner) (promised : KeepsPromise planner) where
   -- it shows what the table has at a place: its code and its starts
   shown : (i : ℕ) → i < length examples → (wake : ℕ) (starts : List ℕ) (places : ℕ) → Is (example-at i .wake) wake
       → Is (example-at i .places) places → length (example-at i .jobs) ≤ length starts
@@ -86,9 +106,13 @@ module _ (planner : Planner) (promised : Always Promised planner) where
   unfolding alone example-at examples
   alone-shown = shown 2 (omega arith) 0 (5 ∷ []) 32 (omega arith) (omega arith) (omega arith)
 
-  equals-shown : planner equals .1 ≡ 0 ∷ 1 ∷ []
+  equals-shown : (planner equals .0 .code ≡ done) × (planner equals .1 ≡ 0 ∷ 1 ∷ [])
   unfolding equals example-at examples
-  equals-shown = shown 4 (omega arith) 1 (0 ∷ 0 ∷ []) 75 refl (omega arith) (omega arith) .1
+  equals-shown = shown 4 (omega arith) 1 (0 ∷ 0 ∷ []) 75 refl (omega arith) (omega arith)
+
+  fixed-shown : (planner fixed-rows .0 .code ≡ done) × (planner fixed-rows .1 ≡ 0 ∷ 4 ∷ [])
+  unfolding fixed-rows example-at examples
+  fixed-shown = shown 9 (omega arith) 0 (0 ∷ 0 ∷ []) 192 refl (omega arith) (omega arith)
 
   rows-shown : (planner rows .0 .code ≡ done) × (planner rows .1 ≡ 3 ∷ 4 ∷ [])
   unfolding rows example-at examples
@@ -98,24 +122,41 @@ module _ (planner : Planner) (promised : Always Promised planner) where
   unfolding swapped example-at examples
   swapped-shown = shown 7 (omega arith) 3 (0 ∷ 0 ∷ []) 243 refl (omega arith) (omega arith)
 
-  not-seven : Always Seven planner → ⊥
-  not-seven seven = omega (arith, alone-shown .0, seven alone)
+  taken : (input : Input) → planner input .0 .code ≡ done → Taken (run-of planner input)
+  taken input code = answers-taken (run-of planner input) (promised input) (inl code)
 
-  not-fixed : (plan : List ℕ) → Always (Fixed plan) planner → ⊥
+  not-seven : Does Seven planner → ⊥
+  not-seven seven = omega (arith, alone-shown .0, seven alone (taken alone (alone-shown .0)))
+
+  not-fixed : (plan : Plan) → Does (Fixed plan) planner → ⊥
   unfolding rows swapped example-at examples input-of
   not-fixed plan fixed =
-      give (sym (fixed rows (rows-shown .0)) ∙ ap (take 2) (rows-shown .1))
-      (λ first.
-      give (sym (fixed swapped (swapped-shown .0)) ∙ ap (take 2) (swapped-shown .1))
-      (λ second. omega (arith, ap (λ xs. at xs 0) (sym first ∙ second))))
+      omega (
+        arith,
+        ap (λ xs. at xs 0) (rows-shown .1),
+        ap (λ xs. at xs 0) (swapped-shown .1),
+        fixed rows (taken rows (rows-shown .0)) (rows-shown .0) 0 (omega arith),
+        fixed swapped (taken swapped (swapped-shown .0)) (swapped-shown .0) 0 (omega arith),
+      )
 
-  not-writeless : Always Writeless planner → ⊥
+  not-writeless : Does Writeless planner → ⊥
   unfolding alone input-of
-  not-writeless writeless = omega (arith, ap (λ xs. at xs 0) (sym (alone-shown .1) ∙ writeless alone))
+  not-writeless writeless =
+      omega (arith, ap (λ xs. at xs 0) (sym (alone-shown .1) ∙ writeless alone (taken alone (alone-shown .0))))
 
-  not-first-repeated : Always FirstRepeated planner → ⊥
-  not-first-repeated repeated =
-      omega (arith, repeated equals 1, ap (λ xs. at xs 0) equals-shown, ap (λ xs. at xs 1) equals-shown)
+  -- the second row of two whose first starts at 0 starts at 1, or at 4
+  not-invented : (invent : ℕ → ℕ → ℕ) → Does (Invented invent) planner → ⊥
+  unfolding equals fixed-rows example-at examples input-of
+  not-invented invent invented =
+      omega (
+        arith,
+        ap (λ xs. at xs 1) (equals-shown .1),
+        ap (λ xs. at xs 1) (fixed-shown .1),
+        invented equals (taken equals (equals-shown .0)) (equals-shown .0) 1 (omega arith) (omega arith),
+        invented fixed-rows (taken fixed-rows (fixed-shown .0)) (fixed-shown .0) 1 (omega arith) (omega arith),
+        ap (λ xs. invent 1 (at xs 0)) (equals-shown .1),
+        ap (λ xs. invent 1 (at xs 0)) (fixed-shown .1),
+      )
 
 -- one row that may start at slot 0 or 1, and what a ledger counts before it
 
@@ -171,9 +212,10 @@ module _ (ledger : Ledger) (promised : (day : Day) (w : Windows) (starts : List 
 pub no-impostor : NoImpostor
 no-impostor =
     record {
-      seven = not-seven;
-      fixed = λ planner plan promised. not-fixed planner promised plan;
-      writeless = not-writeless;
-      first-repeated = not-first-repeated;
-      planless = not-planless;
+      seven = record { breaks = λ planner seven promised. not-seven planner promised seven; exists = always-seven };
+      fixed = λ plan. record { breaks = λ planner fixed promised. not-fixed planner promised plan fixed; exists = fixed-plan plan };
+      writeless = record { breaks = λ planner writeless promised. not-writeless planner promised writeless; exists = no-starts };
+      invented = λ invent.
+          record { breaks = λ planner invented promised. not-invented planner promised invent invented; exists = first-placed invent };
+      planless = record { breaks = λ ledger planless promised. not-planless ledger promised planless; exists = counts-without-plan };
     }

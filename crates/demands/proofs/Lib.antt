@@ -10,5 +10,6 @@ pub mod Test
 pub mod Computed
 pub mod Examples
 pub mod OneOutcome
+pub mod WrongPrograms
 pub mod Impostors
 pub mod Demands

@@ -8,7 +8,7 @@ use lib.ListN.{length, take, length-append}
 use lib.Seq.{length-take-le, getD-take, ext-getD}
 use Rattle.day.specs.declared.Answer.{Answer}
 use Rattle.day.specs.declared.Day.{Day}
-use Rattle.day.specs.Windows.{SameRows, Windows, at}
+use Rattle.day.specs.Windows.{Windows, at}
 use Rattle.day.specs.Plan.{Plan}
 use Rattle.day.specs.Gap.{cost}
 use Rattle.day.specs.Answer.{done}
@@ -22,7 +22,7 @@ use Rattle.day.proofs.Beside.{apart-by-wake, first-no-plan, second-no-plan, res
 use Rattle.demands.specs.Run.{Run, list, Served}
 use Rattle.demands.specs.BestPlan.{BestGiven}
 use Rattle.demands.specs.SideBySide.{Joins, SideBySide, SevenOfEither, JoinsSideBySide, JoinsSeven}
-use Rattle.demands.proofs.Joined.{append-beside, joined-alike}
+use Rattle.demands.proofs.Joined.{append-beside}
 use Rattle.demands.proofs.BestPlan.{best-or-none, best-code, none-code, done-best, GivenOn, given-on, seven-exactly}
 
 -- a list that begins with n places of one and then m places of another
@@ -147,11 +147,11 @@ module _ (g : ℕ) (first second whole : Run) (joins : Joins g first second whol
               (best-or-none first one));
           of-first = λ code.
               seven-exactly whole all .whenever
-              (no-plan-cong pair (list whole) alike
+              (no-plan-cong pair (list whole) (joins .rows)
               (first-no-plan (list first) (list second) (seven-exactly first one .only-if code)));
           of-second = λ code.
               seven-exactly whole all .whenever
-              (no-plan-cong pair (list whole) alike
+              (no-plan-cong pair (list whole) (joins .rows)
               (second-no-plan (list first) (list second) (seven-exactly second two .only-if code)));
         }
 

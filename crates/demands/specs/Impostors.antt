@@ -1,15 +1,18 @@
--- Wrong programs that document 01 tells us to try against the promises, four planners and a ledger: none of them keeps its promise.
-use Prim.Native.Nat.{ℕ}
+-- Wrong programs that document 01 tells us to try against the promises, four planners and a ledger: none of them keeps its promise. Each is
+-- described by what it does where the checks have nothing to refuse, and each exists, with checks as promised.
+use Prim.Native.Nat.{ℕ, _<_}
 use mathlib.Core.Path.{_≡_}
 use mathlib.Core.List.{List}
-use lib.ListN.{take}
 use Rattle.day.specs.declared.Answer.{Answer}
 use Rattle.day.specs.declared.Day.{Day}
-use Rattle.day.specs.Windows.{Windows, at}
+use Rattle.day.specs.Windows.{Windows, windows, at}
+use Rattle.day.specs.Plan.{Plan}
 use Rattle.day.specs.Answer.{done, no-plan}
+use Rattle.claim.specs.Claim.{ClaimCheck}
+use Rattle.planner.specs.Promise.{PlanCheck}
 use Rattle.ledger.specs.declared.LedgerAnswer.{LedgerAnswer}
-use Rattle.ledger.specs.Promise.{Ledgered}
-use Rattle.demands.specs.Run.{Run, list, Promised}
+use Rattle.ledger.specs.Promise.{no-counts, Ledgered}
+use Rattle.demands.specs.Run.{Run, list, Promised, Taken}
 
 -- what goes into a planner
 pub record Input : Type 0 where
@@ -19,9 +22,12 @@ pub record Input : Type 0 where
   pub starts : List ℕ
   pub table : List ℕ
 
--- a planner answers every input, and leaves starts and table behind
+-- what comes out: the answer, and starts and table afterwards
+abbrev pub Outcome : Type 0
+Outcome = Answer × List ℕ × List ℕ
+
 abbrev pub Planner : Type 0
-Planner = Input → Answer × List ℕ × List ℕ
+Planner = Input → Outcome
 
 abbrev pub run-of : Planner → Input → Run
 run-of planner input =
@@ -36,25 +42,41 @@ run-of planner input =
       table-after = planner input .2;
     }
 
--- it does what P says on every input
-abbrev pub Always : (Run → Type 0) → Planner → Type 0
-Always P planner = (input : Input) → P (run-of planner input)
+abbrev pub KeepsPromise : Planner → Type 0
+KeepsPromise planner = (input : Input) → Promised (run-of planner input)
+
+-- what the checks refuse it refuses as promised
+abbrev pub Checks : Planner → Type 0
+Checks planner =
+    (input : Input) (b : Answer) → PlanCheck (input .day) (windows (input .releases) (input .deadlines)) (input .starts) (input .table) b
+    → planner input ≡ (b, input .starts, input .table)
+
+-- with what the checks take it does what Wrong says
+abbrev pub Does : (Run → Type 0) → Planner → Type 0
+Does Wrong planner = (input : Input) → Taken (run-of planner input) → Wrong (run-of planner input)
 
 -- it answers 7 always
 abbrev pub Seven : Run → Type 0
 Seven run = run .answer .code ≡ no-plan
 
 -- it has a fixed plan
-abbrev pub Fixed : List ℕ → Run → Type 0
-Fixed plan run = run .answer .code ≡ done → take (list run .count) (run .starts-after) ≡ take (list run .count) plan
+abbrev pub Fixed : Plan → Run → Type 0
+Fixed plan run = run .answer .code ≡ done → (i : ℕ) → i < list run .count → at (run .starts-after) i ≡ plan i
 
 -- it writes no starts
 abbrev pub Writeless : Run → Type 0
 Writeless run = run .starts-after ≡ run .starts
 
--- it places the first job, and the others in the same slot
-abbrev pub FirstRepeated : Run → Type 0
-FirstRepeated run = (i : ℕ) → at (run .starts-after) i ≡ at (run .starts-after) 0
+-- it places the first job and invents the rest: a row's start is made up from the first row's
+abbrev pub Invented : (ℕ → ℕ → ℕ) → Run → Type 0
+Invented invent run =
+    run .answer .code ≡ done → (i : ℕ) → 0 < i → i < list run .count
+    → at (run .starts-after) i ≡ invent i (at (run .starts-after) 0)
+
+-- no planner that does so keeps its promise, and there is one that does so
+pub record RuledOut (Wrong : Run → Type 0) : Type 0 where
+  pub breaks : (planner : Planner) → Does Wrong planner → KeepsPromise planner → ⊥
+  pub exists : (planner : Planner) × Checks planner × Does Wrong planner
 
 -- a ledger answers every day, list and plan
 abbrev pub Ledger : Type 0
@@ -67,10 +89,17 @@ Planless ledger =
     → ledger day w other .answer .code ≡ done
     → ledger day w starts .counts ≡ ledger day w other .counts
 
+-- as for the planners
+pub record PlanlessRuledOut : Type 0 where
+  pub breaks : (ledger : Ledger) → Planless ledger → ((day : Day) (w : Windows) (starts : List ℕ) → Ledgered day w starts (ledger day w starts))
+      → ⊥
+  pub exists : (ledger : Ledger) × Planless ledger
+      × ((day : Day) (w : Windows) (starts : List ℕ) (b : Answer) → ClaimCheck day w starts b
+      → ledger day w starts ≡ record { answer = b; counts = no-counts })
+
 pub record NoImpostor : Type 0 where
-  pub seven : (planner : Planner) → Always Promised planner → Always Seven planner → ⊥
-  pub fixed : (planner : Planner) (plan : List ℕ) → Always Promised planner → Always (Fixed plan) planner → ⊥
-  pub writeless : (planner : Planner) → Always Promised planner → Always Writeless planner → ⊥
-  pub first-repeated : (planner : Planner) → Always Promised planner → Always FirstRepeated planner → ⊥
-  pub planless : (ledger : Ledger) → ((day : Day) (w : Windows) (starts : List ℕ) → Ledgered day w starts (ledger day w starts))
-      → Planless ledger → ⊥
+  pub seven : RuledOut Seven
+  pub fixed : (plan : Plan) → RuledOut (Fixed plan)
+  pub writeless : RuledOut Writeless
+  pub invented : (invent : ℕ → ℕ → ℕ) → RuledOut (Invented invent)
+  pub planless : PlanlessRuledOut
