@@ -2,24 +2,24 @@
 use Prim.Native.Nat.{ℕ, _+_, _≤_, _<_}
 use mathlib.Core.Path.{_≡_, sym, ap}
 use mathlib.Core.List.{List}
-use mathlib.Core.Logic.{_⊎_, inl, inr, ⊎-elim}
+use mathlib.Core.Logic.{inl, inr, ⊎-elim}
 use native.Mathlib.Omega.{arith}
 use lib.ListN.{length}
 use Rattle.day.specs.declared.Answer.{Answer}
 use Rattle.day.specs.declared.Day.{Day}
 use Rattle.day.specs.Windows.{Windows, at}
 use Rattle.day.specs.Plan.{MayStart}
-use Rattle.day.specs.Answer.{done}
+use Rattle.day.specs.Answer.{done, few-starts, outside-window, same-start}
 use Rattle.day.specs.Refusal.{_then_, stops, goes-on, Passed}
 use Rattle.day.specs.Check.{most-slots, GoodRows, Accepted, ListCheck}
 use Rattle.day.proofs.Cases.{on-le, on-eq}
-use Rattle.day.proofs.Refusal.{IsCheck, refuses-is-check, refuses-row-is-check, refuses-pair-is-check, then-is-check, then-passed, then-clear, then-next, passed-clear, clear-first, clear-next, no-fault, no-row-at-fault}
+use Rattle.day.proofs.Refusal.{IsCheck, refuses-is-check, refuses-row-is-check, refuses-pair-is-check, then-is-check, then-passed, then-clear, then-next, passed-clear, clear-first, clear-next, no-fault, no-row-at-fault, no-pair-at-fault}
 use Rattle.day.proofs.Check.{list-is-check, clear-accepted}
-use Rattle.claim.specs.Claim.{Fit, Together, LengthCheck, WindowsCheck, ApartCheck, StartsCheck, ClaimCheck, plan-cost, PricedStarts}
+use Rattle.day.proofs.Decided.{Known, Decided, above-known, then-decided, refuses-decided, refuses-row-decided, refuses-pair-decided, list-decided}
+use Rattle.claim.specs.Claim.{Fit, Outside, Together, LengthCheck, WindowsCheck, ApartCheck, StartsCheck, ClaimCheck, plan-cost, PricedStarts}
 use Rattle.claim.specs.declared.Claimed.{Claimed}
 use Rattle.claim.specs.Rows.{Placed, Judged}
 use Rattle.claim.proofs.Rows.{Cut, rows-cut}
-use Rattle.claim.proofs.Pair.{no-pair-at-fault}
 
 pub length-is-check : (w : Windows) (starts : List ℕ) → IsCheck (LengthCheck w starts)
 length-is-check w starts = refuses-is-check (λ e. omega arith)
@@ -37,11 +37,24 @@ starts-is-check w starts =
 pub claim-is-check : (day : Day) (w : Windows) (starts : List ℕ) → IsCheck (ClaimCheck day w starts)
 claim-is-check day w starts = then-is-check list-is-check (starts-is-check w starts)
 
-may-start-known : (w : Windows) (i t : ℕ) → MayStart w i t ⊎ (MayStart w i t → ⊥)
+may-start-known : (w : Windows) (i t : ℕ) → Known (MayStart w i t)
 may-start-known w i t =
     on-le (w .release i) t
     (λ h. on-le (t + 1) (w .deadline i) (λ l. inl (h, l)) (λ l. inr (λ m. omega (arith, m .1))))
     (λ h. inr (λ m. omega (arith, m .0)))
+
+outside-known : (w : Windows) (starts : List ℕ) (i : ℕ) → Known (Outside w starts i)
+outside-known w starts i = ⊎-elim (λ m. inr (λ out. out m)) (λ out. inl out) (may-start-known w i (at starts i))
+
+together-known : (starts : List ℕ) (i j : ℕ) → Known (Together starts i j)
+together-known starts i j = on-eq (at starts i) (at starts j) (λ e. inl e) (λ e. inr e)
+
+pub claim-decided : (day : Day) (w : Windows) (starts : List ℕ) → Decided (ClaimCheck day w starts)
+claim-decided day w starts =
+    then-decided (list-decided day w)
+    (then-decided (refuses-decided few-starts (above-known (length starts) (w .count)))
+    (then-decided (refuses-row-decided outside-window (w .count) (outside-known w starts))
+    (refuses-pair-decided same-start (w .count) (together-known starts))))
 
 -- a plan with nothing to refuse is fit
 pub clear-fit : (w : Windows) (starts : List ℕ) → ((b : Answer) → StartsCheck w starts b → ⊥) → Fit w starts
@@ -53,17 +66,11 @@ clear-fit w starts clear =
   where
     inside : (i : ℕ) → i < w .count → MayStart w i (at starts i)
     inside i h =
-        ⊎-elim (λ m. m)
-        (λ m.
-        absurd
-        (no-row-at-fault (λ j. ⊎-elim (λ k. inr (λ n. n k)) (λ k. inl k) (may-start-known w j (at starts j)))
-        (clear-first (clear-next clear)) i
-        h m))
+        ⊎-elim (λ m. m) (λ m. absurd (no-row-at-fault (outside-known w starts) (clear-first (clear-next clear)) i h m))
         (may-start-known w i (at starts i))
 
     none-together : (i j : ℕ) → i < j → j < w .count → Together starts i j → ⊥
-    none-together = no-pair-at-fault (λ i j. on-eq (at starts i) (at starts j) (λ e. inl e) (λ e. inr e)) (w .count)
-        (clear-next (clear-next clear))
+    none-together = no-pair-at-fault (together-known starts) (w .count) (clear-next (clear-next clear))
 
     apart : (i j : ℕ) → i < w .count → j < w .count → at starts i ≡ at starts j → i ≡ j
     apart i j h l e =

@@ -7,10 +7,10 @@ use Rattle.day.specs.declared.Answer.{Answer}
 use Rattle.day.specs.declared.Day.{Day}
 use Rattle.day.specs.Windows.{Windows}
 use Rattle.day.specs.Answer.{says, bad-slots, bad-wake, too-many-jobs, bad-row}
-use Rattle.day.specs.Refusal.{_then_, stops, goes-on, Refuses, First, RefusesRow, FirstPair, RefusesPair}
+use Rattle.day.specs.Refusal.{_then_, stops, goes-on, Refuses, RefusesRow, RefusesPair}
 use Rattle.day.specs.Check.{most-slots, most-wake, most-jobs, ListCheck}
 use Rattle.day.proofs.Cases.{on-eq, on-le}
-use Rattle.day.proofs.Refusal.{first-or-none, then-clear}
+use Rattle.day.proofs.Refusal.{first-or-none, first-pair-or-none, then-clear}
 use Rattle.day.proofs.Check.{bad-row-known}
 
 abbrev pub Known : Type 0 → Type 0
@@ -37,47 +37,11 @@ refuses-row-decided code n known =
     (λ none. inr (λ b r. none (r .row) (r .first .within) (r .first .fault)))
     (first-or-none known n)
 
-module _ {Fault : ℕ → ℕ → Type 0} (n : ℕ) (known : (i j : ℕ) → Known (Fault i j)) where
-  abbrev Partner : ℕ → ℕ → Type 0
-  Partner i j = (i < j) × Fault i j
-
-  abbrev HasPartner : ℕ → Type 0
-  HasPartner i = (j : ℕ) × First n (Partner i) j
-
-  partner-known : (i j : ℕ) → Known (Partner i j)
-  partner-known i j =
-      on-le j i (λ h. inr (λ p. omega (arith, p .0))) (λ h. ⊎-elim (λ f. inl (h, f)) (λ none. inr (λ p. none (p .1))) (known i j))
-
-  has-partner-known : (i : ℕ) → Known (HasPartner i)
-  has-partner-known i =
-      ⊎-elim (λ f. inl f) (λ none. inr (λ p. none (p .0) (p .1 .within) (p .1 .fault))) (first-or-none (partner-known i) n)
-
-  -- where no row has a partner, no two rows are at fault
-  no-partner : (i : ℕ) → (HasPartner i → ⊥) → (j : ℕ) → i < j → j < n → Fault i j → ⊥
-  no-partner i none j h l f =
-      ⊎-elim none (λ clear. clear j l (h, f)) (first-or-none (partner-known i) n)
-
-  pair-of : (i : ℕ) → First n HasPartner i → (j : ℕ) → First n (Partner i) j → FirstPair n Fault i j
-  pair-of i first j partner =
-      record {
-        order = partner .fault .0;
-        within = partner .within;
-        fault = partner .fault .1;
-        lowest = λ k l h. no-partner k (first .lowest k h) l;
-        partner = λ l h b f. partner .lowest l b (h, f);
-      }
-
-  pub refuses-pair-decided : (code : ℕ) → Decided (RefusesPair code n Fault)
-  refuses-pair-decided code =
-      ⊎-elim
-      (λ f.
-      inl (
-        says code (f .0 + 1) (f .1 .fault .0 + 1),
-        record { row = f .0; partner = f .1 .fault .0; first = pair-of (f .0) (f .1) (f .1 .fault .0) (f .1 .fault .1); says = refl },
-      ))
-      (λ none.
-      inr (λ b r. no-partner (r .row) (none (r .row) (omega (arith, r .first .order, r .first .within))) (r .partner) (r .first .order) (r .first .within) (r .first .fault)))
-      (first-or-none has-partner-known n)
+pub refuses-pair-decided : {Fault : ℕ → ℕ → Type 0} (code n : ℕ) → ((i j : ℕ) → Known (Fault i j)) → Decided (RefusesPair code n Fault)
+refuses-pair-decided code n known =
+    ⊎-elim (λ f. inl (says code (f .0 + 1) (f .1 + 1), record { row = f .0; partner = f .1; first = f .2; says = refl }))
+    (λ none. inr (λ b r. none (r .row) (r .partner) (r .first .order) (r .first .within) (r .first .fault)))
+    (first-pair-or-none known n)
 
 -- codes 1 to 4
 pub list-decided : (day : Day) (w : Windows) → Decided (ListCheck day w)

@@ -52,7 +52,7 @@ module _ (full : ℕ → Bool) (slots : ℕ) where
   pub between-gap : {from g : ℕ} → 1 ≤ g → EmptyFrom full from (from + g) → Between full slots from g → Gap full slots from g
   between-gap {from} {g} some empty next-to =
       record {
-        some = some;
+        some = omega arith;
         empty = empty;
         maximal = λ a b l h k clear. (
           on-le from a (λ m. omega arith)

@@ -41,6 +41,49 @@ first-or-none known (suc n) =
     (known n))
     (first-or-none known n)
 
+module _ {Fault : ℕ → ℕ → Type 0} (known : (i j : ℕ) → Fault i j ⊎ (Fault i j → ⊥)) (n : ℕ) where
+  -- row j comes after row i and is at fault with it
+  abbrev Partner : ℕ → ℕ → Type 0
+  Partner i j = (i < j) × Fault i j
+
+  abbrev LowestPartner : ℕ → Type 0
+  LowestPartner i = (j : ℕ) × First n (Partner i) j
+
+  lowest-partner : (i : ℕ) → LowestPartner i ⊎ ((j : ℕ) → j < n → Partner i j → ⊥)
+  lowest-partner i =
+      first-or-none
+      (λ j. on-le (suc i) j (λ h. ⊎-elim (λ f. inl (h, f)) (λ f. inr (λ p. f (p .1))) (known i j)) (λ h. inr (λ p. omega arith)))
+      n
+
+  has-partner : (i j : ℕ) → j < n → Partner i j → LowestPartner i
+  has-partner i j within p = ⊎-elim (λ f. f) (λ none. absurd (none j within p)) (lowest-partner i)
+
+  -- the first row that has a partner, with the lowest of its partners, is the first pair
+  first-pair : (i : ℕ) (f : First n LowestPartner i) → FirstPair n Fault i (f .fault .0)
+  first-pair i f =
+      record {
+        order = f .fault .1 .fault .0;
+        within = f .fault .1 .within;
+        fault = f .fault .1 .fault .1;
+        lowest = λ k l below order within fault. f .lowest k below (has-partner k l within (order, fault));
+        partner = λ l order below fault. f .fault .1 .lowest l below (order, fault);
+      }
+
+  -- there is a first pair at fault, or none is
+  pub first-pair-or-none : ((i : ℕ) × (j : ℕ) × FirstPair n Fault i j) ⊎ ((i j : ℕ) → i < j → j < n → Fault i j → ⊥)
+  first-pair-or-none =
+      ⊎-elim (λ f. inl (f .0, f .1 .fault .0, first-pair (f .0) (f .1)))
+      (λ none. inr (λ i j order within fault. none i (omega arith) (has-partner i j within (order, fault))))
+      (first-or-none (λ k. ⊎-elim inl (λ none. inr (λ p. none (p .0) (p .1 .within) (p .1 .fault))) (lowest-partner k)) n)
+
+  -- a pair at fault would be refused
+  pub no-pair-at-fault : {code : ℕ} → ((b : Answer) → RefusesPair code n Fault b → ⊥) → (i j : ℕ) → i < j → j < n → Fault i j → ⊥
+  no-pair-at-fault {code} clear =
+      ⊎-elim
+      (λ f. absurd (clear (says code (f .0 + 1) (f .1 + 1)) (record { row = f .0; partner = f .1; first = f .2; says = refl })))
+      (λ none. none)
+      first-pair-or-none
+
 -- a search that ended at a row found the row to refuse
 pub found-refused : {code n : ℕ} {Fault : ℕ → Type 0} (i : ℕ) → FirstOrEnd n Fault i → i < n
     → RefusesRow code n Fault (says code (i + 1) 0)

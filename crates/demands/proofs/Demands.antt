@@ -2,11 +2,14 @@
 use Rattle.demands.specs.Demands.{Demands}
 use Rattle.demands.proofs.BestPlan.{best-or-none, answers-taken, seven-exactly}
 use Rattle.demands.proofs.DayFile.{reads-back}
-use Rattle.demands.proofs.Joined.{joined-accepted}
+use Rattle.demands.proofs.Gaps.{gaps-are-listed}
+use Rattle.demands.proofs.Joined.{appended-joined, joined-accepted}
 use Rattle.demands.proofs.SideBySide.{joins-side-by-side, joins-seven}
 use Rattle.demands.proofs.Mirrored.{mirrored-accepted, mirrored-answer}
 use Rattle.demands.proofs.Moving.{moved-accepted, moving-keeps}
-use Rattle.demands.proofs.Ledger.{ledger-balances}
+use Rattle.demands.proofs.MovingEnds.{leaves-at-ends, moves-at-ends}
+use Rattle.demands.proofs.Ledger.{ledger-balances, ledger-outer, row-shown}
+use Rattle.demands.proofs.Text.{prints-decimals}
 use Rattle.demands.proofs.Examples.{examples-hold}
 use Rattle.demands.proofs.OneOutcome.{one-outcome}
 use Rattle.demands.proofs.Impostors.{no-impostor}
@@ -17,7 +20,9 @@ demands =
       best-plan = best-or-none;
       checked = answers-taken;
       seven = seven-exactly;
+      gaps = gaps-are-listed;
       day-file = reads-back;
+      appended = appended-joined;
       joined-accepted = joined-accepted;
       side-by-side = joins-side-by-side;
       joined-seven = joins-seven;
@@ -25,7 +30,12 @@ demands =
       mirrored = mirrored-answer;
       moved-accepted = moved-accepted;
       moving = moving-keeps;
+      leaving = leaves-at-ends;
+      at-ends = moves-at-ends;
       ledger = ledger-balances;
+      outer-slots = ledger-outer;
+      row-shown = row-shown;
+      decimals = prints-decimals;
       examples = examples-hold;
       one-outcome = one-outcome;
       no-impostor = no-impostor;

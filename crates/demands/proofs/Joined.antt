@@ -6,13 +6,13 @@ use native.Mathlib.Nat.{zero-add}
 use native.Mathlib.Omega.{arith}
 use lib.ListN.{length, length-append, List·getD-append}
 use lib.Seq.{getD-append-add}
-use Rattle.day.specs.Windows.{SameRows, Windows, at}
-use Rattle.day.specs.Change.{beside, joined}
+use Rattle.day.specs.Windows.{Windows, at}
+use Rattle.day.specs.Change.{beside}
 use Rattle.day.specs.Check.{Accepted}
 use Rattle.day.proofs.Cases.{give}
 use Rattle.day.proofs.Joined.{on-row, beside-first, beside-after}
 use Rattle.demands.specs.Run.{Run, list}
-use Rattle.demands.specs.SideBySide.{Joins, JoinedAccepted}
+use Rattle.demands.specs.SideBySide.{Joins, AppendedJoined, JoinedAccepted}
 use Rattle.demands.proofs.BestPlan.{accepted-too}
 
 -- an entry of a joined list is one of the first, or one of the second
@@ -21,6 +21,14 @@ append-beside xs ys n i long =
     on-row (λ i. at (xs ++ ys) i ≡ beside n (at xs) (at ys) i) n (i + 1) i (omega arith)
     (λ j l. List·getD-append xs ys 0 j (omega arith) ∙ sym (beside-first n (at xs) (at ys) j l))
     (λ k l. ap (λ x. at (xs ++ ys) (x + k)) (sym long) ∙ getD-append-add xs ys k 0 ∙ sym (beside-after n (at xs) (at ys) k))
+
+pub appended-joined : AppendedJoined
+appended-joined releases deadlines more-releases more-deadlines long =
+    record {
+      count = length-append releases more-releases;
+      release = λ i l. sym (append-beside releases more-releases (length releases) i refl);
+      deadline = λ i l. sym (append-beside deadlines more-deadlines (length releases) i long);
+    }
 
 module _ (g : ℕ) (first second whole : Run) (joins : Joins g first second whole) where
   -- the rows of the two, as rows of the whole

@@ -3,7 +3,7 @@ use Prim.Native.Nat.{ℕ, zero, suc, _≤_, _<_}
 use mathlib.Core.Path.{_≡_, refl, sym, _∙_, ap}
 use mathlib.Core.Bool.{cond}
 use mathlib.Core.List.{List}
-use mathlib.Core.Logic.{inl, inr, ⊎-elim}
+use mathlib.Core.Logic.{inl, inr}
 use native.Mathlib.Omega.{arith}
 use lib.Dec.{eqb}
 use lib.ListN.{length, set, length-set}
@@ -13,18 +13,17 @@ use Rattle.day.specs.declared.Answer.{Answer}
 use Rattle.day.specs.declared.Day.{Day}
 use Rattle.day.specs.Windows.{Windows, windows, at}
 use Rattle.day.specs.Plan.{Plan}
-use Rattle.day.specs.Answer.{says, done, few-starts, short-table, no-plan, outside-window, same-start}
-use Rattle.day.proofs.Cases.{give, on-eq, on-le}
-use Rattle.day.proofs.Decided.{Known, Decided, above-known, then-decided, refuses-decided, refuses-row-decided, refuses-pair-decided, list-decided}
-use Rattle.planner.specs.Table.{need}
+use Rattle.day.specs.Answer.{says, done, no-plan}
+use Rattle.day.proofs.Cases.{on-eq}
+use Rattle.day.proofs.Decided.{Decided}
 use Rattle.planner.specs.Promise.{PlanCheck}
-use Rattle.planner.proofs.Promise.{plan-is-check}
-use Rattle.claim.specs.Claim.{Outside, Together, ClaimCheck}
-use Rattle.claim.proofs.Claim.{claim-is-check}
+use Rattle.planner.proofs.Promise.{plan-is-check, plan-decided}
+use Rattle.claim.specs.Claim.{ClaimCheck}
+use Rattle.claim.proofs.Claim.{claim-is-check, claim-decided}
 use Rattle.ledger.specs.declared.Counts.{Counts}
 use Rattle.ledger.specs.declared.LedgerAnswer.{LedgerAnswer}
 use Rattle.ledger.specs.Promise.{no-counts}
-use Rattle.demands.specs.Run.{Run, Taken}
+use Rattle.demands.specs.Run.{Taken}
 use Rattle.demands.specs.Impostors.{
   Input,
   Outcome,
@@ -44,11 +43,8 @@ use Rattle.demands.proofs.BestPlan.{taken-clear}
 abbrev CheckOf : Input → Answer → Type 0
 CheckOf input = PlanCheck (input .day) (windows (input .releases) (input .deadlines)) (input .starts) (input .table)
 
-plan-decided : (input : Input) → Decided (CheckOf input)
-plan-decided input =
-    then-decided (list-decided (input .day) (windows (input .releases) (input .deadlines)))
-    (then-decided (refuses-decided few-starts (above-known (length (input .starts)) (length (input .releases))))
-    (refuses-decided short-table (above-known (length (input .table)) (need (input .day .slots) (length (input .releases))))))
+decided : (input : Input) → Decided (CheckOf input)
+decided input = plan-decided (input .day) (windows (input .releases) (input .deadlines)) (input .starts) (input .table)
 
 -- where the checks refuse nothing, what the wrong planner makes of it
 checked-by : (input : Input) → Outcome → Decided (CheckOf input) → Outcome
@@ -56,11 +52,11 @@ checked-by input wrong (inl refusal) = (refusal .0, input .starts, input .table)
 checked-by input wrong (inr clear) = wrong
 
 checked : Planner → Planner
-checked wrong input = checked-by input (wrong input) (plan-decided input)
+checked wrong input = checked-by input (wrong input) (decided input)
 
 checks : (wrong : Planner) → Checks (checked wrong)
 unfolding checked checked-by
-checks wrong input b refused = by (plan-decided input)
+checks wrong input b refused = by (decided input)
   where
     by : (d : Decided (CheckOf input)) → checked-by input (wrong input) d ≡ (b, input .starts, input .table)
     by (inl refusal) =
@@ -71,7 +67,7 @@ checks wrong input b refused = by (plan-decided input)
 
 goes-wrong : (wrong : Planner) (input : Input) → Taken (run-of (checked wrong) input) → checked wrong input ≡ wrong input
 unfolding checked checked-by
-goes-wrong wrong input taken = by (plan-decided input)
+goes-wrong wrong input taken = by (decided input)
   where
     by : (d : Decided (CheckOf input)) → checked-by input (wrong input) d ≡ wrong input
     by (inl refusal) = absurd (taken-clear (run-of (checked wrong) input) taken (refusal .0) (refusal .1))
@@ -137,23 +133,6 @@ first-placed invent = (
 )
 
 -- the ledger that takes its counts from nowhere
-
-outside-known : (w : Windows) (starts : List ℕ) (i : ℕ) → Known (Outside w starts i)
-outside-known w starts i =
-    on-le (w .release i) (at starts i)
-    (λ h.
-    on-le (suc (at starts i)) (w .deadline i) (λ l. inr (λ out. out (h, omega arith))) (λ l. inl (λ inside. omega (arith, inside .1))))
-    (λ h. inl (λ inside. omega (arith, inside .0)))
-
-together-known : (starts : List ℕ) (i j : ℕ) → Known (Together starts i j)
-together-known starts i j = on-eq (at starts i) (at starts j) (λ e. inl e) (λ e. inr e)
-
-claim-decided : (day : Day) (w : Windows) (starts : List ℕ) → Decided (ClaimCheck day w starts)
-claim-decided day w starts =
-    then-decided (list-decided day w)
-    (then-decided (refuses-decided few-starts (above-known (length starts) (w .count)))
-    (then-decided (refuses-row-decided outside-window (w .count) (outside-known w starts))
-    (refuses-pair-decided (w .count) (together-known starts) same-start)))
 
 -- all slots before the first job, whatever the plan
 planless-by : (day : Day) (w : Windows) (starts : List ℕ) → Decided (ClaimCheck day w starts) → LedgerAnswer

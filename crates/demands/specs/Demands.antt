@@ -1,10 +1,12 @@
 -- All that is promised, in one place. Each field is a statement of the file that it comes from.
 use Rattle.demands.specs.BestPlan.{GivesBestOrNone, AnswersTaken, SevenIfNone}
 use Rattle.demands.specs.DayFile.{ReadsBack}
-use Rattle.demands.specs.SideBySide.{JoinedAccepted, JoinsSideBySide, JoinsSeven}
+use Rattle.demands.specs.Gaps.{GapsListed}
+use Rattle.demands.specs.SideBySide.{AppendedJoined, JoinedAccepted, JoinsSideBySide, JoinsSeven}
 use Rattle.demands.specs.Mirrored.{MirroredAccepted, MirroredAnswer}
-use Rattle.demands.specs.Moving.{MovedAccepted, MovingKeeps}
-use Rattle.demands.specs.Ledger.{LedgerBalances}
+use Rattle.demands.specs.Moving.{MovedAccepted, MovingKeeps, LeavesAtEnds, MovesAtEnds}
+use Rattle.demands.specs.Ledger.{LedgerBalances, LedgerOuter, RowShown}
+use Rattle.demands.specs.Text.{PrintsDecimals}
 use Rattle.demands.specs.Examples.{ExamplesHold}
 use Rattle.demands.specs.OneOutcome.{OneOutcome}
 use Rattle.demands.specs.Impostors.{NoImpostor}
@@ -14,8 +16,10 @@ pub record Demands : Type 0 where
   pub best-plan : GivesBestOrNone
   pub checked : AnswersTaken
   pub seven : SevenIfNone
+  pub gaps : GapsListed
   pub day-file : ReadsBack
   -- demand 3
+  pub appended : AppendedJoined
   pub joined-accepted : JoinedAccepted
   pub side-by-side : JoinsSideBySide
   pub joined-seven : JoinsSeven
@@ -24,8 +28,14 @@ pub record Demands : Type 0 where
   -- moving a list
   pub moved-accepted : MovedAccepted
   pub moving : MovingKeeps
+  pub leaving : LeavesAtEnds
+  pub at-ends : MovesAtEnds
   -- the slot ledger
   pub ledger : LedgerBalances
+  pub outer-slots : LedgerOuter
+  pub row-shown : RowShown
+  -- the printed text
+  pub decimals : PrintsDecimals
   -- P1 to P10
   pub examples : ExamplesHold
   -- two outcomes are equal

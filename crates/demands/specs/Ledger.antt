@@ -1,5 +1,6 @@
--- The slot ledger: its five counts add up to T, and the plan costs its awake slots and a wake for each sleeping gap.
-use Prim.Native.Nat.{ℕ, _+_, _*_}
+-- The slot ledger: its five counts add up to T, and the plan costs its awake slots and a wake for each sleeping gap; what lies before the
+-- first job and after the last; and one slot's record.
+use Prim.Native.Nat.{ℕ, _+_, _-_, _*_, _≤_, _<_}
 use mathlib.Core.Path.{_≡_}
 use mathlib.Core.List.{List}
 use Rattle.day.specs.declared.Day.{Day}
@@ -7,19 +8,53 @@ use Rattle.day.specs.Windows.{Windows, at}
 use Rattle.day.specs.Plan.{taken}
 use Rattle.day.specs.Gap.{gaps, cost}
 use Rattle.day.specs.Answer.{done}
+use Rattle.ledger.specs.declared.Fill.the-variants.{Job}
+use Rattle.ledger.specs.declared.SlotAnswer.{SlotAnswer}
 use Rattle.ledger.specs.declared.Counts.{Counts}
 use Rattle.ledger.specs.declared.LedgerAnswer.{LedgerAnswer}
 use Rattle.ledger.specs.Sleep.{sleeps}
-use Rattle.ledger.specs.Promise.{Ledgered}
+use Rattle.ledger.specs.Promise.{Ledgered, SlotShown}
 
 pub record Balanced (day : Day) (w : Windows) (starts : List ℕ) (counts : Counts) : Type 0 where
   pub slots : counts .before + counts .job + counts .awake + counts .asleep + counts .after ≡ day .slots
   pub cost : cost day (w .count) (at starts)
       ≡ counts .awake + day .power .wake * sleeps (day .power) (gaps (taken (w .count) (at starts)) 0 (day .slots))
 
+-- without jobs before is T and the rest 0
+abbrev pub all-before : ℕ → Counts
+all-before slots = record { before = slots; job = 0; awake = 0; asleep = 0; after = 0 }
+
+-- row i is the first, or the last: no row starts earlier, or later
+
+abbrev pub StartsFirst : Windows → List ℕ → ℕ → Type 0
+StartsFirst w starts i = (i < w .count) × ((j : ℕ) → j < w .count → at starts i ≤ at starts j)
+
+abbrev pub StartsLast : Windows → List ℕ → ℕ → Type 0
+StartsLast w starts i = (i < w .count) × ((j : ℕ) → j < w .count → at starts j ≤ at starts i)
+
+-- with jobs before and after are the empty slots outside first and last job
+pub record OuterSlots (day : Day) (w : Windows) (starts : List ℕ) (counts : Counts) : Type 0 where
+  pub no-jobs : w .count ≡ 0 → counts ≡ all-before (day .slots)
+  pub before : (i : ℕ) → StartsFirst w starts i → counts .before ≡ at starts i
+  pub after : (i : ℕ) → StartsLast w starts i → counts .after ≡ day .slots - (at starts i + 1)
+
 -- of every ledger that keeps its promise, under code 0
-abbrev pub LedgerBalances : Type 0
-LedgerBalances =
+abbrev pub OfLedger : (Day → Windows → List ℕ → Counts → Type 0) → Type 0
+OfLedger Says =
     (day : Day) (w : Windows) (starts : List ℕ) (ledger : LedgerAnswer) → Ledgered day w starts ledger
     → ledger .answer .code ≡ done
-    → Balanced day w starts (ledger .counts)
+    → Says day w starts (ledger .counts)
+
+abbrev pub LedgerBalances : Type 0
+LedgerBalances = OfLedger Balanced
+
+abbrev pub LedgerOuter : Type 0
+LedgerOuter = OfLedger OuterSlots
+
+-- a slot in which a row starts is shown with the job and its row
+abbrev pub RowShown : Type 0
+RowShown =
+    (day : Day) (w : Windows) (starts : List ℕ) (asked : ℕ) (shown : SlotAnswer) → SlotShown day w starts asked shown
+    → shown .answer .code ≡ done
+    → (i : ℕ) → i < w .count → at starts i ≡ asked
+    → shown .held ≡ record { slot = asked; fill = Job (i + 1) }

@@ -3,10 +3,12 @@
 pub mod Run
 pub mod BestPlan
 pub mod DayFile
+pub mod Gaps
 pub mod SideBySide
 pub mod Mirrored
 pub mod Moving
 pub mod Ledger
+pub mod Text
 pub mod Examples
 pub mod OneOutcome
 pub mod Impostors

@@ -1,14 +1,16 @@
--- Moving: a list that moving accepts is accepted by the planner too; with the same T and L it has the old code and cost, and each start moves by as
+-- Moving: where a moved window leaves the day; a list that moving accepts is accepted by the planner too; with the same T and L it has the old code and cost, and each start moves by as
 -- much.
-use Prim.Native.Nat.{ℕ, _<_}
+use Prim.Native.Nat.{ℕ, _+_, _≤_, _<_}
 use mathlib.Core.Path.{_≡_}
-use lib.IntN.{ℤ}
+use mathlib.Core.List.{List, []}
+use lib.ListN.{length}
+use lib.IntN.{ℤ, pos, negsuc}
 use Rattle.day.specs.declared.Answer.{Answer}
-use Rattle.day.specs.Windows.{at}
-use Rattle.day.specs.Answer.{done}
+use Rattle.day.specs.Windows.{at, windows}
+use Rattle.day.specs.Answer.{says, done, leaves-day}
 use Rattle.day.specs.Change.{Shifts}
-use Rattle.day.specs.Check.{Accepted}
-use Rattle.moving.specs.Moving.{MovedList}
+use Rattle.day.specs.Check.{most-slots, most-jobs, GoodRows, Accepted}
+use Rattle.moving.specs.Moving.{Outside, MovedList}
 use Rattle.demands.specs.Run.{Run, list, Served}
 
 -- two runs on one day, the second on the list that moving made of the first: it kept its promise, and accepted
@@ -31,3 +33,33 @@ pub record MovedAnswer (by : ℤ) (run other : Run) : Type 0 where
 
 abbrev pub MovingKeeps : Type 0
 MovingKeeps = (by : ℤ) (run other : Run) → Moves by run other → Served run → Served other → MovedAnswer by run other
+
+-- a window of a day, from r to d
+pub record InDay (slots r d : ℕ) : Type 0 where
+  pub window : r < d
+  pub within : d ≤ slots
+
+-- where a window leaves the day, in numbers without a sign: n + 1 slots earlier if r ≤ n, n slots later if d + n > T
+pub record LeavesAtEnds : Type 0 where
+  pub earlier : (slots n r d : ℕ) → InDay slots r d → Outside slots (negsuc n) r d → r ≤ n
+  pub too-early : (slots n r d : ℕ) → r ≤ n → Outside slots (negsuc n) r d
+  pub later : (slots n r d : ℕ) → Outside slots (pos n) r d → slots < d + n
+  pub too-late : (slots n r d : ℕ) → slots < d + n → Outside slots (pos n) r d
+
+-- a list within the limits, and what moving it gives
+pub record Tried (slots : ℕ) (by : ℤ) (releases deadlines : List ℕ) (a : Answer) (releases-after deadlines-after : List ℕ) : Type 0 where
+  pub some-slots : 0 < slots
+  pub slots-taken : slots ≤ most-slots
+  pub rows : GoodRows most-jobs slots (windows releases deadlines)
+  pub promised : MovedList slots by releases deadlines a releases-after deadlines-after
+
+pub record MovesAtEnds : Type 0 where
+  -- an empty list never gets 18
+  pub empty : (slots : ℕ) (by : ℤ) (deadlines : List ℕ) (a : Answer) (rs ds : List ℕ) → MovedList slots by [] deadlines a rs ds
+      → a .code ≡ leaves-day → ⊥
+  -- by -32,768 slots every other list leaves, with its first row
+  pub smallest : (slots : ℕ) (releases deadlines : List ℕ) (a : Answer) (rs ds : List ℕ)
+      → Tried slots (negsuc 32767) releases deadlines a rs ds → 0 < length releases → a ≡ says leaves-day 1 0
+  -- by 0 slots nothing changes
+  pub zero : (slots : ℕ) (releases deadlines : List ℕ) (a : Answer) (rs ds : List ℕ)
+      → Tried slots (pos 0) releases deadlines a rs ds → (a ≡ says done 0 0) × (rs ≡ releases) × (ds ≡ deadlines)

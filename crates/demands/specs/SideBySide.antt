@@ -2,10 +2,10 @@
 -- list is the best plans of the two, side by side; a wake comes to their costs unless a list is empty; and 7 exactly if one of the two has 7.
 use Prim.Native.Nat.{ℕ, _+_, _≤_, _<_}
 use mathlib.Core.Path.{_≡_}
-use mathlib.Core.List.{_++_}
+use mathlib.Core.List.{List, _++_}
 use mathlib.Core.Logic.{_⊎_}
-use lib.ListN.{take}
-use Rattle.day.specs.Windows.{SameRows}
+use lib.ListN.{length, take}
+use Rattle.day.specs.Windows.{windows, SameRows}
 use Rattle.day.specs.Answer.{done, no-plan}
 use Rattle.day.specs.Change.{joined}
 use Rattle.day.specs.Check.{Accepted}
@@ -18,6 +18,13 @@ pub record Joins (g : ℕ) (first second whole : Run) : Type 0 where
   pub rows : SameRows (joined (list first) (list second)) (list whole)
   pub by-g : (i : ℕ) → i < list first .count → list first .deadline i ≤ g
   pub wake-later : (i : ℕ) → i < list second .count → g + first .day .power .wake ≤ list second .release i
+
+-- of lists of numbers: the second list's numbers after the first's, which has a deadline for each row, are the joined list
+abbrev pub AppendedJoined : Type 0
+AppendedJoined =
+    (releases deadlines more-releases more-deadlines : List ℕ) → length deadlines ≡ length releases
+    → SameRows (joined (windows releases deadlines) (windows more-releases more-deadlines))
+    (windows (releases ++ more-releases) (deadlines ++ more-deadlines))
 
 -- where checks 1 to 4 accept the whole, they accept the two
 abbrev pub JoinedAccepted : Type 0

@@ -9,12 +9,13 @@ use lib.Seq.{ext-getD}
 use Rattle.day.specs.declared.Answer.{Answer}
 use Rattle.day.specs.declared.Day.{Day}
 use Rattle.day.specs.Windows.{Windows, at}
-use Rattle.day.specs.Answer.{says, done, no-plan}
+use Rattle.day.specs.Answer.{says, done, few-starts, short-table, no-plan}
 use Rattle.day.specs.Refusal.{_then_, stops, goes-on, Passed}
 use Rattle.day.specs.Check.{ListCheck, Accepted}
 use Rattle.day.proofs.Cases.{on-eq, on-le}
 use Rattle.day.proofs.Refusal.{IsCheck, no-fault, then-unique, then-next, then-is-check, clear-first, clear-next, refuses-is-check}
 use Rattle.day.proofs.Check.{list-is-check, clear-accepted}
+use Rattle.day.proofs.Decided.{Decided, above-known, then-decided, refuses-decided, list-decided}
 use Rattle.day.proofs.Best.{best-costs, best-unique}
 use Rattle.planner.specs.Table.{need}
 use Rattle.planner.specs.Promise.{Verdict, costs, none-proper, BestIn, Planned, Never, PlanCheck, PlanPromise}
@@ -105,6 +106,13 @@ module _ (day : Day) (w : Windows) (starts table : List ℕ) (clear : (b : Answe
 pub plan-is-check : (day : Day) (w : Windows) (starts table : List ℕ) → IsCheck (PlanCheck day w starts table)
 plan-is-check day w starts table =
     then-is-check list-is-check (then-is-check (refuses-is-check (λ e. omega arith)) (refuses-is-check (λ e. omega arith)))
+
+-- and each input is refused by one of them, or by none
+pub plan-decided : (day : Day) (w : Windows) (starts table : List ℕ) → Decided (PlanCheck day w starts table)
+plan-decided day w starts table =
+    then-decided (list-decided day w)
+    (then-decided (refuses-decided few-starts (above-known (length starts) (w .count)))
+    (refuses-decided short-table (above-known (length table) (need (day .slots) (w .count)))))
 
 pub plan-unique : (day : Day) (w : Windows) (starts table : List ℕ) (a b : Answer) (p t q u : List ℕ)
     → PlanPromise day w starts table a p t → PlanPromise day w starts table b q u → (a ≡ b) × (p ≡ q) × (t ≡ u)

@@ -1,0 +1,52 @@
+-- Where a moved window leaves the day, an empty list, and the shifts of -32,768 and 0. Assumes nothing.
+use Prim.Native.Nat.{_+_}
+use mathlib.Core.Path.{refl, sym, _∙_}
+use mathlib.Core.Logic.{⊎-elim}
+use native.Mathlib.Omega.{arith}
+use lib.IntN.{negsuc}
+use Rattle.day.specs.Windows.{windows, at}
+use Rattle.day.specs.Answer.{says, leaves-day}
+use Rattle.day.specs.Refusal.{stops, goes-on}
+use Rattle.day.proofs.Cases.{on-le}
+use Rattle.day.proofs.Refusal.{then-unique}
+use Rattle.day.proofs.Check.{good-rows-clear}
+use Rattle.moving.proofs.Moving.{move-is-check}
+use Rattle.moving.proofs.Ends.{too-early, early-stays, too-late, late-stays, smallest-leaves}
+use Rattle.moving.proofs.Unique.{empty-list-stays, zero-shift-keeps}
+use Rattle.demands.specs.Moving.{LeavesAtEnds, MovesAtEnds}
+
+pub leaves-at-ends : LeavesAtEnds
+leaves-at-ends =
+    record {
+      earlier = λ slots n r d day out.
+          on-le r n (λ h. h) (λ h. absurd (early-stays slots n r d h (day .window) (day .within) out));
+      too-early = too-early;
+      later = λ slots n r d out. on-le (d + n) slots (λ h. absurd (late-stays slots n r d h out)) (λ h. h);
+      too-late = too-late;
+    }
+
+pub moves-at-ends : MovesAtEnds
+moves-at-ends =
+    record {
+      empty = λ slots by deadlines a rs ds promised. empty-list-stays promised;
+      smallest = λ slots releases deadlines a rs ds tried some.
+          then-unique (move-is-check slots (negsuc 32767) (windows releases deadlines)) (λ x y s t. s ∙ sym t) a (says leaves-day 1 0)
+          (tried .promised .answer)
+          (stops
+          (goes-on (λ b r. ⊎-elim (λ z. omega (arith, tried .some-slots)) (λ z. omega (arith, tried .slots-taken)) (r .fault))
+          (goes-on (good-rows-clear (tried .rows))
+          (record {
+            row = 0;
+            first =
+                record {
+                  within = some;
+                  fault =
+                      smallest-leaves slots (at releases 0) (at deadlines 0)
+                      (omega (arith, tried .slots-taken, tried .rows .window 0 some, tried .rows .in-day 0 some));
+                  lowest = λ j h. absurd (omega arith);
+                };
+            says = refl;
+          }))));
+      zero = λ slots releases deadlines a rs ds tried.
+          zero-shift-keeps (tried .some-slots) (tried .slots-taken) (tried .rows) (tried .promised);
+    }
