@@ -1,4 +1,10 @@
-// Reads a day file on standard input and writes its plan to standard output.
+// Reads a day file on standard input and writes its plan to standard output. A read that fails is never planned, and output that is lost is
+// told: either is one line on standard error, by which the script that starts the program knows.
+mod call;
+mod read;
+mod write;
+
+use read::Input;
 use report::text::Text;
 ghost use mathlib.Core.Path.{_≡_};
 ghost use Prim.Native.Nat.{_+_};
@@ -23,9 +29,23 @@ fn printed(file: &[u8]) -> Text
 
 fn main() {
     let mut file = input();
-    let length = io::read_full(libc::STDIN_FILENO, &mut file);
-    let text = printed(&file[..length]);
+    match read::read_whole(&mut file) {
+        Input::Whole(length) => print(&file[..length]),
+        Input::Failed => complain(b"dayplan: the input can't be read.\n"),
+    }
+}
+
+// Writes the text for a whole input.
+fn print(file: &[u8]) {
+    let text = printed(file);
     let bytes = text.bytes;
     let end = text.len;
-    io::write_all(libc::STDOUT_FILENO, &bytes[..end]);
+    if !write::write_whole(libc::STDOUT_FILENO, &bytes[..end]) {
+        complain(b"dayplan: the plan can't be written whole.\n");
+    }
+}
+
+// Writes a line to standard error. If that fails too, there is nobody left to tell.
+fn complain(line: &[u8]) {
+    write::write_whole(libc::STDERR_FILENO, line);
 }

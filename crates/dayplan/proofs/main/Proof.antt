@@ -1,52 +1,64 @@
--- `dayplan::main` is safe and ends. Assumes nothing.
+-- `dayplan::main` is safe and ends: what is printed lies in what was read. Assumes nothing.
+use Prim.Native.Nat.{_≤_}
 use mathlib.Core.Path.{sym}
-use borrow.Author.Needs.{needs}
+use lib.ListN.{length}
 use lib.Seq.{length-take-le}
-use Rattle.report.proofs.Lines.{prints-within}
+use borrow.Author.Needs.{needs}
 use Rattle.dayplan.proofs.main.Statement.{statement}
 use Rattle.dayplan.proofs.main.Tie as tie
 
 input-requires : tie.Need-input-requires
 input-requires c κs = search needs
 
-slice-aggregate-read-full : tie.Need-slice-aggregate-read-full
-slice-aggregate-read-full c = search needs
+slice-aggregate-read-whole : tie.Need-slice-aggregate-read-whole
+slice-aggregate-read-whole c = search needs
 
-read-full-requires : tie.Need-read-full-requires
-read-full-requires c κs = search needs
+read-whole-requires : tie.Need-read-whole-requires
+read-whole-requires c κs = search needs
+
+enum-known-length : tie.Need-enum-known-length
+enum-known-length c = search needs
+
+held : (c : tie.After-known-told) → c .before .length .given .0 .0 ≤ length (c .before .before .before .before .read-whole .last .0)
+held c = rw (c .before .length .given .1) at (c .before .before .before .before .read-whole .ensures)
 
 array-share-prefix-file : tie.Need-array-share-prefix-file
-array-share-prefix-file c = search needs
+array-share-prefix-file c = held c
 
-slice-aggregate-printed : tie.Need-slice-aggregate-printed
-slice-aggregate-printed c = search needs
+slice-aggregate-print : tie.Need-slice-aggregate-print
+slice-aggregate-print c = sym (length-take-le _ _ (held (c .before)))
 
-printed-requires : tie.Need-printed-requires
-printed-requires c κs = search needs
+print-requires : tie.Need-print-requires
+print-requires c κs = search needs
 
-array-share-prefix-bytes : tie.Need-array-share-prefix-bytes
-array-share-prefix-bytes c = prints-within (c .before .printed .ensures .planned .prints)
+enum-told : tie.Need-enum-told
+enum-told c = search needs
 
-slice-aggregate-write-all : tie.Need-slice-aggregate-write-all
-slice-aggregate-write-all c = sym (length-take-le _ _ (prints-within (c .before .before .printed .ensures .planned .prints)))
+slice-aggregate-complain : tie.Need-slice-aggregate-complain
+slice-aggregate-complain c = search needs
 
-write-all-requires : tie.Need-write-all-requires
-write-all-requires c κs = search needs
+complain-requires : tie.Need-complain-requires
+complain-requires c κs = search needs
 
 returns : tie.Need-returns
 returns c = search needs
+
+returns-2 : tie.Need-returns-2
+returns-2 c = search needs
 
 pub main-spec : {M : Type 1} → statement M
 main-spec =
     tie.close
     (tie.spec
     input-requires
-    slice-aggregate-read-full
-    read-full-requires
+    slice-aggregate-read-whole
+    read-whole-requires
+    enum-known-length
     array-share-prefix-file
-    slice-aggregate-printed
-    printed-requires
-    array-share-prefix-bytes
-    slice-aggregate-write-all
-    write-all-requires
-    returns)
+    slice-aggregate-print
+    print-requires
+    enum-told
+    slice-aggregate-complain
+    complain-requires
+    returns
+    returns-2)

@@ -1,0 +1,73 @@
+-- `dayplan::read::read_some` meets its contract and ends: a call is made again only below 1,000 retries. Assumes nothing.
+use Prim.Native.Nat.{_-_, _≤_, _<_}
+use mathlib.Core.Path.{_≡_}
+use native.Mathlib.Omega.{arith}
+use lib.ListN.{length}
+use borrow.Author.Needs.{needs}
+use Rattle.dayplan.proofs.Calls.{again-below, over-within}
+use Rattle.dayplan.proofs.read.read_some.Statement.{statement}
+use Rattle.dayplan.proofs.read.read_some.Tie as tie
+
+abbrev Inv-loop : tie.InvT-loop
+Inv-loop room₀ retries₀ room retries = (length room ≡ length room₀) × (retries ≤ 1000)
+
+abbrev μ-loop : tie.MeasureT-loop
+μ-loop room₀ retries₀ room retries = 1000 - retries
+
+loop-holds : tie.Need-loop-holds Inv-loop μ-loop
+loop-holds c = search needs
+
+read-requires : tie.Need-read-requires Inv-loop μ-loop
+read-requires c κs = search needs
+
+errno-requires : tie.Need-errno-requires Inv-loop μ-loop
+errno-requires c κs = search needs
+
+judge-requires : tie.Need-judge-requires Inv-loop μ-loop
+judge-requires c κs = search needs
+
+enum-told : tie.Need-enum-told Inv-loop μ-loop
+enum-told c = search needs
+
+below : (c : tie.After-enum-told Inv-loop μ-loop) → c .before .before .before .before .before .before .before .before .loop .retries < 1000
+below c = again-below (rw (c .enum-told .given .1) at (c .before .before .judge .ensures))
+
+add-retries : tie.Need-add-retries Inv-loop μ-loop
+add-retries c = record { fits = omega (arith, below c) }
+
+loop-less : tie.Need-loop-less Inv-loop μ-loop
+loop-less c = omega (arith, below c)
+
+loop-again : tie.Need-loop-again Inv-loop μ-loop
+loop-again c = (search needs, omega (arith, below c))
+
+enum-known-came : tie.Need-enum-known-came Inv-loop μ-loop
+enum-known-came c = search needs
+
+same-length : tie.Need-same-length Inv-loop μ-loop
+same-length c = search needs
+
+returns : tie.Need-returns Inv-loop μ-loop
+returns c =
+    let call = c .before .before .before .before .before .before .before in
+    let same : length (call .read .last .1 .0) ≡ length (call .before .before .loop .room) = search needs in
+    rw same (over-within _ (call .read .result) (record { sfits = call .read .ok })
+    (rw (c .before .came .given .1) at (c .before .before .before .judge .ensures)) (call .read .ensures))
+
+pub read-some-spec : {M : Type 1} → statement M
+read-some-spec =
+    tie.close
+    (tie.spec
+    Inv-loop
+    μ-loop
+    loop-holds
+    read-requires
+    errno-requires
+    judge-requires
+    enum-told
+    add-retries
+    loop-less
+    loop-again
+    enum-known-came
+    same-length
+    returns)

@@ -1,0 +1,66 @@
+-- `dayplan::write::write_some` meets its contract and ends: a call is made again only below 1,000 retries. Assumes nothing.
+use Prim.Native.Nat.{_-_, _≤_, _<_}
+use native.Mathlib.Omega.{arith}
+use borrow.Author.Needs.{needs}
+use Rattle.dayplan.proofs.Calls.{again-below, over-within}
+use Rattle.dayplan.proofs.write.write_some.Statement.{statement}
+use Rattle.dayplan.proofs.write.write_some.Tie as tie
+
+abbrev Inv-loop : tie.InvT-loop
+Inv-loop target text retries₀ retries = retries ≤ 1000
+
+abbrev μ-loop : tie.MeasureT-loop
+μ-loop target text retries₀ retries = 1000 - retries
+
+loop-holds : tie.Need-loop-holds Inv-loop μ-loop
+loop-holds c = search needs
+
+write-requires : tie.Need-write-requires Inv-loop μ-loop
+write-requires c κs = search needs
+
+errno-requires : tie.Need-errno-requires Inv-loop μ-loop
+errno-requires c κs = search needs
+
+judge-requires : tie.Need-judge-requires Inv-loop μ-loop
+judge-requires c κs = search needs
+
+enum-told : tie.Need-enum-told Inv-loop μ-loop
+enum-told c = search needs
+
+below : (c : tie.After-enum-told Inv-loop μ-loop) → c .before .before .before .before .before .loop .retries < 1000
+below c = again-below (rw (c .enum-told .given .1) at (c .before .before .judge .ensures))
+
+add-retries : tie.Need-add-retries Inv-loop μ-loop
+add-retries c = record { fits = omega (arith, below c) }
+
+loop-less : tie.Need-loop-less Inv-loop μ-loop
+loop-less c = omega (arith, below c)
+
+loop-again : tie.Need-loop-again Inv-loop μ-loop
+loop-again c = omega (arith, below c)
+
+enum-known-came : tie.Need-enum-known-came Inv-loop μ-loop
+enum-known-came c = search needs
+
+returns : tie.Need-returns Inv-loop μ-loop
+returns c =
+    let call = c .before .before .before .before .before in
+    over-within _ (call .write .result) (record { sfits = call .write .ok })
+    (rw (c .before .came .given .1) at (c .before .before .before .judge .ensures)) (call .write .ensures)
+
+pub write-some-spec : {M : Type 1} → statement M
+write-some-spec =
+    tie.close
+    (tie.spec
+    Inv-loop
+    μ-loop
+    loop-holds
+    write-requires
+    errno-requires
+    judge-requires
+    enum-told
+    add-retries
+    loop-less
+    loop-again
+    enum-known-came
+    returns)

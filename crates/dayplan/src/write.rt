@@ -1,0 +1,53 @@
+// Writing a text whole.
+use crate::call::Came;
+use crate::call::Turn;
+use crate::call::judge;
+ghost use mathlib.Core.Path.{_≡_};
+ghost use Prim.Native.Nat.{_-_, _^_};
+ghost use lib.ListN.{length};
+ghost use Rattle.dayplan.specs.Calls.{Within};
+ghost use Rattle.dayplan.specs.Writing.{after-write};
+
+// Where writing stands: at a place of the text, or given up.
+pub enum Writing {
+    At(usize),
+    Lost,
+}
+
+// Writes all of `text` and answers true, or stops at the first write that fails or takes nothing and answers false.
+pub fn write_whole(target: i32, text: &[u8]) -> bool {
+    let mut at: usize = 0;
+    while at < text.len() {
+        match advance(at, write_some(target, &text[at..])) {
+            Writing::At(next) => at = next,
+            Writing::Lost => return false,
+        }
+    }
+    true
+}
+
+// Where writing stands once a write is over that began at `at`.
+fn advance(at: usize, came: Came) -> Writing
+    requires { ⌜ Within (2 ^ 63 - at) came ⌝ }
+    ensures { λ writing. ⌜ writing ≡ after-write at came ⌝ }
+{
+    match came {
+        Came::Bytes(count) => Writing::At(at + count),
+        Came::Nothing => Writing::Lost,
+        Came::Failure => Writing::Lost,
+    }
+}
+
+// One write, made again while signals interrupt it.
+fn write_some(target: i32, text: &[u8]) -> Came
+    ensures { λ came. ⌜ Within (length (now (text .entry))) came ⌝ }
+{
+    let mut retries: u16 = 0;
+    loop {
+        let got = libc::write(target, text);
+        match judge(got, os::errno(), retries) {
+            Turn::Again => retries += 1,
+            Turn::Over(came) => return came,
+        }
+    }
+}
