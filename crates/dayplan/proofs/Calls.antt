@@ -38,7 +38,7 @@ pub negative-follows : {error : ℤ} {retries : ℕ} {turn : Turn} (got : ℤ) �
 negative-follows (pos n) p z f = absurd (z (ap pos (omega (arith, ltb-false 0 n p))))
 negative-follows (negsuc n) p z f = f n
 
--- no two things follow
+-- at most one thing follows
 pub follows-one : {error got : ℤ} {retries : ℕ} {a b : Turn} → Follows error retries got a → Follows error retries got b → a ≡ b
 follows-one (bytes n h) (bytes m g) = refl
 follows-one (bytes n h) nothing = absurd (omega arith)

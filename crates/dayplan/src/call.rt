@@ -11,6 +11,7 @@ pub enum Came {
     Failure,
 }
 
+// Whether the call is made again.
 pub enum Turn {
     Again,
     Over(Came),

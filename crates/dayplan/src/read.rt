@@ -34,7 +34,7 @@ pub fn read_whole(file: &mut [u8]) -> Input
     Input::Whole(at)
 }
 
-// Where reading stands once a read is over that began with `at` bytes there.
+// Where reading stands once a read is over that began with `at` bytes there; no buffer is so long that the sum does not fit.
 fn advance(at: usize, came: Came) -> Reading
     requires { ⌜ Within (2 ^ 63 - at) came ⌝ }
     ensures { λ reading. ⌜ reading ≡ after-read at came ⌝ }

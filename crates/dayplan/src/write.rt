@@ -26,7 +26,7 @@ pub fn write_whole(target: i32, text: &[u8]) -> bool {
     true
 }
 
-// Where writing stands once a write is over that began at `at`.
+// Where writing stands once a write is over that began at `at`; no text is so long that the sum does not fit.
 fn advance(at: usize, came: Came) -> Writing
     requires { ⌜ Within (2 ^ 63 - at) came ⌝ }
     ensures { λ writing. ⌜ writing ≡ after-write at came ⌝ }
