@@ -15,6 +15,7 @@ use Rattle.day.specs.Check.{
   PowerCheck,
   BadRow,
   JobsCheck,
+  TimesCheck,
   ListCheck,
   GoodRows,
   Accepted,
@@ -40,6 +41,9 @@ power-is-check = refuses-is-check (λ e. omega arith)
 
 pub jobs-is-check : {limit slots : ℕ} {w : Windows} → IsCheck (JobsCheck limit slots w)
 jobs-is-check = then-is-check (refuses-is-check (λ e. omega arith)) (refuses-row-is-check (λ e. omega arith))
+
+pub times-is-check : {slots : ℕ} {w : Windows} → IsCheck (TimesCheck slots w)
+times-is-check = then-is-check slots-is-check jobs-is-check
 
 pub list-is-check : {day : Day} {w : Windows} → IsCheck (ListCheck day w)
 list-is-check = then-is-check slots-is-check (then-is-check power-is-check jobs-is-check)

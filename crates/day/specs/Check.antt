@@ -39,6 +39,10 @@ RowsCheck slots w = RefusesRow bad-row (w .count) (BadRow slots w)
 abbrev pub JobsCheck : ℕ → ℕ → Windows → Answer → Type 0
 JobsCheck limit slots w = CountCheck limit w then RowsCheck slots w
 
+-- codes 1, 3 and 4, with the limits of document 01: a day's length and its rows; no power is asked for
+abbrev pub TimesCheck : ℕ → Windows → Answer → Type 0
+TimesCheck slots w = SlotsCheck most-slots slots then JobsCheck most-jobs slots w
+
 -- codes 1 to 4, with the limits of document 01
 abbrev pub ListCheck : Day → Windows → Answer → Type 0
 ListCheck day w =
