@@ -16,7 +16,7 @@ use Rattle.day.specs.Refusal.{_then_, Passed}
 use Rattle.day.specs.Check.{most-slots, most-jobs, GoodRows}
 use Rattle.day.proofs.Cases.{give, on, on-le}
 use Rattle.day.proofs.Refusal.{IsCheck, refuses-row-is-check, then-is-check, passed-clear, clear-first, clear-next, no-fault, no-row-at-fault}
-use Rattle.day.proofs.Check.{slots-is-check, jobs-is-check, clear-good-rows}
+use Rattle.day.proofs.Check.{times-is-check, clear-good-rows}
 use Rattle.moving.specs.Moving.{Outside, MoveCheck, RowsMoved}
 use Rattle.moving.specs.Steps.{Movable, FirstMoved}
 use Rattle.moving.proofs.Signs.{below, not-below, shift-keeps-order}
@@ -66,8 +66,7 @@ stays {slots} {by} {release} {deadline} h clear =
     }))
 
 pub move-is-check : (slots : ℕ) (by : ℤ) (w : Windows) → IsCheck (MoveCheck slots by w)
-move-is-check slots by w =
-    then-is-check slots-is-check (then-is-check jobs-is-check (refuses-row-is-check (λ e. omega arith)))
+move-is-check slots by w = then-is-check times-is-check (refuses-row-is-check (λ e. omega arith))
 
 -- what holds of a list that is not refused
 pub record Acceptable (slots : ℕ) (by : ℤ) (w : Windows) : Type 0 where
@@ -79,14 +78,14 @@ pub acceptable : {slots : ℕ} {by : ℤ} {w : Windows} (a : Answer) → (MoveCh
 acceptable {slots} {by} {w} a p e =
     give (passed-clear (move-is-check slots by w) a p e)
     (λ clear.
-    give (clear-good-rows (clear-first (clear-next clear)))
+    give (clear-good-rows (clear-next (clear-first clear)))
     (λ good.
     record {
-      slots-limit = on-le slots most-slots (λ h. h) (λ h. absurd (no-fault (clear-first clear) (inr h)));
+      slots-limit = on-le slots most-slots (λ h. h) (λ h. absurd (no-fault (clear-first (clear-first clear)) (inr h)));
       rows = good;
       stay = λ i h.
           stays (good .window i h)
-          (no-row-at-fault (λ j. outside-known slots by (w .release j) (w .deadline j)) (clear-next (clear-next clear)) i h);
+          (no-row-at-fault (λ j. outside-known slots by (w .release j) (w .deadline j)) (clear-next clear) i h);
     }))
 
 pub releases-movable : {slots : ℕ} {by : ℤ} (releases deadlines : List ℕ) → Acceptable slots by (windows releases deadlines)

@@ -61,10 +61,10 @@ moved-list-unique {slots} {by} {releases} {deadlines} {rs} {ds} {rs-other} {ds-o
 -- 18 names a row, so that there is one
 leaving-has-rows : (slots : ℕ) (by : ℤ) (w : Windows) (a : Answer) → (MoveCheck slots by w then Passed) a → a .code ≡ leaves-day
     → 0 < w .count
-leaving-has-rows slots by w a (stops (stops p)) e = absurd (omega (arith, ap (λ (x : Answer). x .code) (p .says)))
-leaving-has-rows slots by w a (stops (goes-on n (stops (stops p)))) e = absurd (omega (arith, ap (λ (x : Answer). x .code) (p .says)))
-leaving-has-rows slots by w a (stops (goes-on n (stops (goes-on m p)))) e = absurd (omega (arith, ap (λ (x : Answer). x .code) (p .says)))
-leaving-has-rows slots by w a (stops (goes-on n (goes-on m p))) e = omega (arith, p .first .within)
+leaving-has-rows slots by w a (stops (stops (stops p))) e = absurd (omega (arith, ap (λ (x : Answer). x .code) (p .says)))
+leaving-has-rows slots by w a (stops (stops (goes-on n (stops p)))) e = absurd (omega (arith, ap (λ (x : Answer). x .code) (p .says)))
+leaving-has-rows slots by w a (stops (stops (goes-on n (goes-on m p)))) e = absurd (omega (arith, ap (λ (x : Answer). x .code) (p .says)))
+leaving-has-rows slots by w a (stops (goes-on n p)) e = omega (arith, p .first .within)
 leaving-has-rows slots by w a (goes-on n p) e = absurd (omega (arith, ap (λ (x : Answer). x .code) p))
 
 pub empty-list-stays : {slots : ℕ} {by : ℤ} {deadlines rs ds : List ℕ} {a : Answer} → MovedList slots by [] deadlines a rs ds
@@ -79,11 +79,10 @@ zero-shift-keeps {slots} {releases} {deadlines} some limit good p =
     (record {
       answer =
           goes-on
-          (then-clear (λ b r. ⊎-elim (λ z. omega arith) (λ z. omega arith) (r .fault))
-          (then-clear (good-rows-clear good)
+          (then-clear (then-clear (λ b r. ⊎-elim (λ z. omega arith) (λ z. omega arith) (r .fault)) (good-rows-clear good))
           (λ b r.
           late-stays slots 0 (at releases (r .row)) (at deadlines (r .row)) (omega (arith, good .in-day (r .row) (r .first .within)))
-          (r .first .fault))))
+          (r .first .fault)))
           refl;
       accepted = λ e.
           record {

@@ -11,7 +11,7 @@ use Rattle.day.specs.Windows.{Windows, at, windows}
 use Rattle.day.specs.Change.{Moved}
 use Rattle.day.specs.Answer.{done, leaves-day}
 use Rattle.day.specs.Refusal.{_then_, RefusesRow, Passed}
-use Rattle.day.specs.Check.{most-slots, most-jobs, SlotsCheck, JobsCheck}
+use Rattle.day.specs.Check.{TimesCheck}
 
 -- the window from release to deadline, moved, begins before slot 0 or ends after the day
 abbrev pub Outside : ℕ → ℤ → ℕ → ℕ → Type 0
@@ -22,10 +22,7 @@ LeavesDay slots by w i = Outside slots by (w .release i) (w .deadline i)
 
 -- codes 1, 3, 4 and 18
 abbrev pub MoveCheck : ℕ → ℤ → Windows → Answer → Type 0
-MoveCheck slots by w =
-    SlotsCheck most-slots slots
-    then JobsCheck most-jobs slots w
-    then RefusesRow leaves-day (w .count) (LeavesDay slots by w)
+MoveCheck slots by w = TimesCheck slots w then RefusesRow leaves-day (w .count) (LeavesDay slots by w)
 
 -- every row is moved; a deadline without a release is no row and stays
 pub record RowsMoved (by : ℤ) (releases deadlines releases-after deadlines-after : List ℕ) : Type 0 where

@@ -1,10 +1,7 @@
 // Moving a list: all windows go earlier or later by a signed number of slots, in the caller's own list.
 use day::Answer;
-use day::MOST_JOBS;
-use day::MOST_SLOTS;
 use day::at_or_zero;
-use day::check_rows;
-use day::check_slots;
+use day::check_times;
 use day::code;
 ghost use mathlib.Core.Path.{_≡_};
 ghost use Prim.Native.Nat.{_≤_};
@@ -33,13 +30,9 @@ pub fn move_list(slots: u16, by: i16, releases: &mut [u16], deadlines: &mut [u16
 fn check_move(slots: u16, by: i16, releases: &[u16], deadlines: &[u16]) -> Answer
     ensures { λ a. ⌜ (MoveCheck slots by (windows (now (releases .entry)) (now (deadlines .entry))) then Passed) a ⌝ }
 {
-    let day = check_slots(slots, MOST_SLOTS);
-    if day.code != code::DONE {
-        return day;
-    }
-    let rows = check_rows(slots, releases, deadlines, MOST_JOBS);
-    if rows.code != code::DONE {
-        return rows;
+    let times = check_times(slots, releases, deadlines);
+    if times.code != code::DONE {
+        return times;
     }
     let row = first_leaving(slots, by, releases, deadlines);
     if row == releases.len() {
