@@ -11,8 +11,8 @@ use Rattle.day.specs.declared.Day.{Day}
 use Rattle.day.specs.declared.Job.{Job}
 use Rattle.day.specs.Windows.{Windows, windows}
 use Rattle.day.specs.Answer.{done, no-plan}
-use Rattle.day.specs.Refusal.{_then_}
-use Rattle.day.specs.Check.{most-jobs, ListCheck}
+use Rattle.day.specs.Refusal.{_then_, Passed}
+use Rattle.day.specs.Check.{most-jobs, TimesCheck, ListCheck}
 use Rattle.day.proofs.Cases.{on-le}
 use Rattle.day.proofs.Check.{list-is-check}
 use Rattle.day.proofs.Refusal.{refuses-is-check}
@@ -30,7 +30,7 @@ use Rattle.jobs.specs.Slot.{SlotNumbered}
 use Rattle.jobs.specs.Rows.{rows-of, releases-in, deadlines-in, windows-in}
 use Rattle.jobs.specs.Columns.{releases, deadlines, windows-of}
 use Rattle.jobs.proofs.Copied.{few-releases, few-deadlines, many-rows}
-use Rattle.jobs.proofs.TooMany.{Alike, alike-stops, alike-first, counts-alike, lists-alike}
+use Rattle.jobs.proofs.TooMany.{Alike, alike-stops, alike-first, counts-alike, times-alike, lists-alike}
 
 -- where it is promised of any more than 40 rows alike
 pub listed : (P : List ℕ → List ℕ → Type 0) → ((xs ys xs′ ys′ : List ℕ) → most-jobs < length xs → most-jobs < length xs′ → P xs ys → P xs′ ys′) → (jobs : List Job)
@@ -48,6 +48,11 @@ module _ (day : Day) (w v : Windows) (starts : List ℕ) (many : most-jobs < w .
   claim-not-done a p = list-is-check .not-done a (alike-stops (lists-alike w v many other day) a (alike-stops claims-alike a p))
 
 module _ (jobs : List Job) where
+  pub list-checked : (slots : ℕ) (a : Answer) → (TimesCheck slots (windows-in (rows-of jobs)) then Passed) a → (TimesCheck slots (windows-of jobs) then Passed) a
+  list-checked slots a =
+      listed (λ xs ys. (TimesCheck slots (windows xs ys) then Passed) a)
+      (λ xs ys xs′ ys′ h l. alike-first (times-alike (windows xs ys) (windows xs′ ys′) h l slots) .same a) jobs
+
   pub list-priced : (day : Day) (starts : List ℕ) (a : Answer) → Priced day (windows-in (rows-of jobs)) starts a → Priced day (windows-of jobs) starts a
   list-priced day starts a =
       listed (λ xs ys. Priced day (windows xs ys) starts a)

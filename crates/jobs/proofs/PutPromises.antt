@@ -30,11 +30,11 @@ use Rattle.jobs.specs.Columns.{releases, deadlines}
 use Rattle.jobs.specs.ByValue.{MovesRows, places, blank, ReadsRows}
 use Rattle.jobs.proofs.Copied.{few-count, few-releases, few-deadlines, many-rows}
 use Rattle.jobs.proofs.Put.{put-few, put-within, put-none, put-long, put-rows, put-rest}
-use Rattle.jobs.proofs.TooMany.{Alike, alike-stops, alike-first, alike-next, map-next, jobs-alike}
+use Rattle.jobs.proofs.TooMany.{Alike, alike-stops, alike-first, map-next, times-alike}
 use Rattle.jobs.proofs.Promises.{listed}
 
 moves-alike : (slots : ℕ) (by : ℤ) (w v : Windows) → most-jobs < w .count → most-jobs < v .count → Alike (MoveCheck slots by w) (MoveCheck slots by v)
-moves-alike slots by w v many other = alike-next (alike-first (jobs-alike w v many other slots))
+moves-alike slots by w v many other = alike-first (times-alike w v many other slots)
 
 -- a list whose rows are moved and all put back is moved
 put-moved : (by : ℤ) (jobs : List Job) (rows : Rows) → rows .count ≡ length jobs → length jobs ≤ most-jobs → RowsMoved by (releases jobs) (deadlines jobs) (releases-in rows) (deadlines-in rows)

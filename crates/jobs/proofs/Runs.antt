@@ -66,6 +66,27 @@ module _ {M : Type 1} {𝓤 : URA M} {H : Heap 𝓤} {A : Atoms 𝓤} {K : Type 
   free-room t n {τ} {b} dies empty = free-by t n dies (subst (λ (i : Item 𝓤). ent 𝓤 (mean 𝓤 H A i) (H .room τ b 0)) (sym empty) (id⊢ 𝓤 (H .room τ b 0)))
 
 module _ {M : Type 1} (𝓤 : URA M) (H : Heap 𝓤) (A : Atoms 𝓤) (W : Given 𝓤 H A) (C : Calls 𝓤 H) (Λ : Loops 𝓤 H) (fm : FmC 𝓤 H (W .laws) C) where
+  module _ (n : ℕ) (os : List (ℕ × ℕ)) (m : ℕ) (τ₀ τ₁ τ₂ τ₃ : Ty) (f g : Name) (u s : Val) where
+    abbrev pub hands-two : Fn
+    hands-two = record {
+      lifetimes = n;
+      outlives = os;
+      params = m;
+      locals = local τ₀ valueLocal ∷ local τ₁ valueLocal ∷ local τ₂ valueLocal ∷ local τ₃ valueLocal ∷ [];
+      body = seq (call f (copy (place 2 []) ∷ []) (place 3 [])) (seq (call g (copy (place 1 []) ∷ copy (place 3 []) ∷ []) (place 0 [])) return);
+    }
+
+    pub runs-two : (K : Val → SProp 𝓤) → Typed τ₁ u → Typed τ₂ s → ent 𝓤 (gets 𝓤 H C f (s ∷ []) τ₃ (λ v. gets 𝓤 H C g (u ∷ v ∷ []) τ₀ K)) (WpFn 𝓤 H C Λ hands-two (u ∷ s ∷ []) K)
+    runs-two K tu ts =
+        qed W (raw (gets 𝓤 H C f (s ∷ []) τ₃ (λ v. gets 𝓤 H C g (u ∷ v ∷ []) τ₀ K)) ∷ []) ∵ enter ! C Λ hands-two (u ∷ s ∷ []) K $
+        alloc1 ! (λ l₀. alloc1 ! (λ l₁. alloc1 ! (λ l₂. alloc1 ! (λ l₃. alloc0 ! $ params1 ! $
+        pass1 ! (init ! 4 refl tu) $ pass1 ! (init ! 2 refl ts) $ pass0 ! $ move ! (8 ∷ []) $
+        calls ! fm (λ v. later (given (Typed τ₃ v) (raw (gets 𝓤 H C g (u ∷ v ∷ []) τ₀ K)))) (and-then ! (load ! (from ! (stop !)) (look ! 3 refl)) (no-more !)) (λ v. await ! tt $ learn ! (λ tv.
+        land ! (from ! (stop !)) (init ! 1 refl tv) $
+        calls ! fm (λ w. later (given (Typed τ₀ w) (raw (K w)))) (and-then ! (load ! (from ! (stop !)) (look ! 5 refl)) (and-then ! (load ! (from ! (stop !)) (look ! 1 refl)) (no-more !))) (λ w. await ! tt $ learn ! (λ tw.
+        land ! (from ! (stop !)) (init ! 7 refl tw) $ returns ! (look ! 7 refl) $
+        free-at ! 7 refl refl $ free-at ! 5 refl refl $ free-at ! 3 refl refl $ free-at ! 1 refl refl $ free0 ! $ done !))))))))
+
   module _ (n : ℕ) (os : List (ℕ × ℕ)) (m : ℕ) (τ₀ τ₁ τ₂ τ₃ τ₄ : Ty) (f g : Name) (u s e : Val) where
     abbrev pub hands-three : Fn
     hands-three = record {

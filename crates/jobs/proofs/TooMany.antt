@@ -6,7 +6,7 @@ use Rattle.day.specs.declared.Day.{Day}
 use Rattle.day.specs.Windows.{Windows}
 use Rattle.day.specs.Answer.{says, too-many-jobs}
 use Rattle.day.specs.Refusal.{_then_, stops, goes-on, Refuses}
-use Rattle.day.specs.Check.{most-jobs, JobsCheck, ListCheck}
+use Rattle.day.specs.Check.{most-jobs, JobsCheck, TimesCheck, ListCheck}
 use Rattle.day.proofs.Refusal.{clear-first, clear-next}
 
 -- a check has something to refuse, and the other check refuses it with the same answer
@@ -41,8 +41,11 @@ counts-alike n m many other =
     }
 
 module _ (w v : Windows) (many : most-jobs < w .count) (other : most-jobs < v .count) where
-  pub jobs-alike : (slots : ℕ) → Alike (JobsCheck most-jobs slots w) (JobsCheck most-jobs slots v)
+  jobs-alike : (slots : ℕ) → Alike (JobsCheck most-jobs slots w) (JobsCheck most-jobs slots v)
   jobs-alike slots = alike-first (counts-alike (w .count) (v .count) many other)
+
+  pub times-alike : (slots : ℕ) → Alike (TimesCheck slots w) (TimesCheck slots v)
+  times-alike slots = alike-next (jobs-alike slots)
 
   pub lists-alike : (day : Day) → Alike (ListCheck day w) (ListCheck day v)
   lists-alike day = alike-next (alike-next (jobs-alike (day .slots)))

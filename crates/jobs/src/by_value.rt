@@ -10,6 +10,8 @@ use day::wide;
 use dayfile::Reading;
 use ledger::LedgerAnswer;
 use ledger::SlotAnswer;
+ghost use Rattle.day.specs.Refusal.{_then_, Passed};
+ghost use Rattle.day.specs.Check.{TimesCheck};
 ghost use Rattle.claim.specs.Claim.{Priced};
 ghost use Rattle.claim.specs.Choice.{Chosen, HandedBack};
 ghost use Rattle.dayfile.specs.Writer.{Written};
@@ -29,6 +31,16 @@ pub struct MovedRows {
 pub struct ReadRows {
     pub reading: Reading,
     pub rows: Rows,
+}
+
+pub(crate) fn check(slots: u16, rows: Rows) -> Answer
+    requires { ⌜ Placed rows ⌝ }
+    ensures { λ a. ⌜ (TimesCheck slots (windows-in rows) then Passed) a ⌝ }
+{
+    let count = rows.count;
+    let releases = rows.releases;
+    let deadlines = rows.deadlines;
+    day::check_times(slots, &releases[..count], &deadlines[..count])
 }
 
 pub(crate) fn plan(day: Day, rows: Rows, starts: &mut [u16], table: &mut [u16]) -> Answer

@@ -10,6 +10,8 @@ use day::Job;
 use dayfile::Reading;
 use ledger::LedgerAnswer;
 use ledger::SlotAnswer;
+ghost use Rattle.day.specs.Refusal.{_then_, Passed};
+ghost use Rattle.day.specs.Check.{TimesCheck};
 ghost use Rattle.claim.specs.Claim.{Priced};
 ghost use Rattle.claim.specs.Choice.{Chosen, HandedBack};
 ghost use Rattle.dayfile.specs.Reader.{Read};
@@ -19,6 +21,14 @@ ghost use Rattle.moving.specs.Moving.{MovedList};
 ghost use Rattle.jobs.specs.Plans.{PlannedColumns};
 ghost use Rattle.jobs.specs.Slot.{SlotNumbered};
 ghost use Rattle.jobs.specs.Columns.{releases, deadlines, windows-of};
+
+// Judges a day's length and the list: what a caller asks before it keeps a list. A wake cost is not asked for.
+#[no_mangle]
+pub extern "C" fn chaskuri_check(slots: u16, jobs: &[Job]) -> Answer
+    ensures { λ a. ⌜ (TimesCheck slots (windows-of (now (jobs .entry))) then Passed) a ⌝ }
+{
+    by_value::check(slots, rows::copy_out(jobs))
+}
 
 // Plans the list at least cost. On code 0 the first number is the cost and the first starts are the best plan's, in row order; on 7 there
 // is no proper plan. The needed places of the table are zero then. Under any other code nothing changes.

@@ -24,7 +24,7 @@ use Rattle.ledger.proofs.LedgerAnswer.Laws as N′
 use Rattle.jobs.proofs.Promises.{list-ledgered}
 use Rattle.jobs.proofs.Setting.{rules, calls, loops, frames}
 use Rattle.jobs.proofs.Runs.{runs-three}
-use Rattle.jobs.proofs.Handed.{on-rows, Promises, hands-on}
+use Rattle.jobs.proofs.Handed.{a-day, on-rows, Promises, hands-on}
 use Rattle.jobs.proofs.rows.copy_out.Symbol.{name as #copy-out}
 use Rattle.jobs.proofs.by_value.ledger as g
 use Rattle.jobs.proofs.by_value.ledger.Symbol as g-def
@@ -40,7 +40,7 @@ module _ {M : Type 1} (𝓤 : URA M) (H : Heap 𝓤) (𝓜 : Model 𝓤 H) (𝓖
   abbrev Said : (κs : Lfts 2) (a : Args f.signature κs) → Res f.signature κs → Lasts f.ended κs a → SProp 𝓤
   Said κs a r ws = g.clauses 𝓤 H (𝓖 .A) (𝓜 .mem) (𝓡 .run) (κs .1) (on-rows a) .ensures tt r (atExit g.ended (κs .1) (on-rows a) ws)
 
-  promised : Promises 𝓤 H 𝓜 𝓖 𝓡 code.env code.calls-jobs·rows·copy-out 1 [] (shrSlice 1 tt (λ _. u16) ∷ []) (plain (λ _. N.the-row)) (f.ended .kept) N′.mir
+  promised : Promises 𝓤 H 𝓜 𝓖 𝓡 code.env code.calls-jobs·rows·copy-out a-day 1 [] (shrSlice 1 tt (λ _. u16) ∷ []) (plain (λ _. N.the-row)) (f.ended .kept) N′.mir
       (λ κs. (slice-vals, tt)) #g Said
   promised κs qs a v =
       cited 𝓤 H (tripleOf 𝓤 H (𝓖 .A) g.signature (g.spec 𝓤 H (𝓖 .A) (𝓜 .mem) (𝓡 .run))) 𝓜 𝓡 code.env #g g-def.routine code.calls-jobs·by-value·ledger (g-thm.met 𝓤 H 𝓜 𝓖 𝓡)
@@ -49,7 +49,7 @@ module _ {M : Type 1} (𝓤 : URA M) (H : Heap 𝓤) (𝓜 : Model 𝓤 H) (𝓖
 pub chaskuri-ledger-spec : {M : Type 1} → stated.statement M
 unfolding code.routine
 chaskuri-ledger-spec 𝓤 H 𝓜 𝓖 𝓡 =
-    hands-on 𝓤 H 𝓜 𝓖 𝓡 code.env code.calls-jobs·rows·copy-out 1 [] (shrSlice 1 tt (λ _. u16) ∷ []) (plain (λ _. N.the-row)) (f.ended .kept) N′.mir
+    hands-on 𝓤 H 𝓜 𝓖 𝓡 code.env code.calls-jobs·rows·copy-out a-day 1 [] (shrSlice 1 tt (λ _. u16) ∷ []) (plain (λ _. N.the-row)) (f.ended .kept) N′.mir
     (λ κs. (slice-vals, tt)) #g (Said 𝓤 H 𝓜 𝓖 𝓡) (λ κs. (shr-slice-tells (named 1) (κs .1 .0) u16, tt)) (f.clauses 𝓤 H (𝓖 .A) (𝓜 .mem) (𝓡 .run)) code.function
     #f (code.unfolded 𝓤 H 𝓜 𝓡) (promised 𝓤 H 𝓜 𝓖 𝓡)
     (λ κs a K day list are. runs-three 𝓤 H (𝓖 .A) (rules 𝓤 H 𝓜 𝓖 𝓡 code.env) (calls 𝓤 H 𝓜 𝓖 𝓡 code.env) (loops 𝓤 H 𝓜 𝓖 𝓡 code.env) (frames 𝓤 H 𝓜 𝓖 𝓡 code.env) _ _ _ _ _ _ _ _ #copy-out #g _ _ _ K

@@ -33,7 +33,7 @@ use Rattle.day.proofs.Answer.Laws as N′
 use Rattle.jobs.proofs.Promises.{list-written}
 use Rattle.jobs.proofs.Setting.{rowsTy, listTy, rules, calls as calls-of, loops, frames}
 use Rattle.jobs.proofs.Runs.{Typed, gets, free-at}
-use Rattle.jobs.proofs.Handed.{on-rows, Promises, hands-on}
+use Rattle.jobs.proofs.Handed.{a-day, on-rows, Promises, hands-on}
 use Rattle.jobs.proofs.rows.copy_out.Symbol.{name as #copy-out}
 use Rattle.jobs.proofs.by_value.write as g
 use Rattle.jobs.proofs.by_value.write.Symbol as g-def
@@ -67,7 +67,7 @@ module _ {M : Type 1} (𝓤 : URA M) (H : Heap 𝓤) (𝓜 : Model 𝓤 H) (𝓖
   abbrev Said : (κs : Lfts 2) (a : Args f.signature κs) → Res f.signature κs → Lasts f.ended κs a → SProp 𝓤
   Said κs a r ws = g.clauses 𝓤 H (𝓖 .A) (𝓜 .mem) (𝓡 .run) (κs .1) (on-rows a) .ensures tt r (atExit g.ended (κs .1) (on-rows a) ws)
 
-  promised : Promises 𝓤 H 𝓜 𝓖 𝓡 code.env code.calls-jobs·rows·copy-out 1 [] (plain (λ _. usize) ∷ mutSlice 1 tt (λ _. u8) ∷ []) (plain (λ _. N.the-row)) (f.ended .kept) N′.mir
+  promised : Promises 𝓤 H 𝓜 𝓖 𝓡 code.env code.calls-jobs·rows·copy-out a-day 1 [] (plain (λ _. usize) ∷ mutSlice 1 tt (λ _. u8) ∷ []) (plain (λ _. N.the-row)) (f.ended .kept) N′.mir
       (λ κs. (uint-vals w64, (slice-vals, tt))) #g Said
   promised κs qs a v =
       cited 𝓤 H (tripleOf 𝓤 H (𝓖 .A) g.signature (g.spec 𝓤 H (𝓖 .A) (𝓜 .mem) (𝓡 .run))) 𝓜 𝓡 code.env #g g-def.routine code.calls-jobs·by-value·write (g-thm.met 𝓤 H 𝓜 𝓖 𝓡)
@@ -76,7 +76,7 @@ module _ {M : Type 1} (𝓤 : URA M) (H : Heap 𝓤) (𝓜 : Model 𝓤 H) (𝓖
 pub chaskuri-write-spec : {M : Type 1} → stated.statement M
 unfolding code.routine
 chaskuri-write-spec 𝓤 H 𝓜 𝓖 𝓡 =
-    hands-on 𝓤 H 𝓜 𝓖 𝓡 code.env code.calls-jobs·rows·copy-out 1 [] (plain (λ _. usize) ∷ mutSlice 1 tt (λ _. u8) ∷ []) (plain (λ _. N.the-row)) (f.ended .kept) N′.mir
+    hands-on 𝓤 H 𝓜 𝓖 𝓡 code.env code.calls-jobs·rows·copy-out a-day 1 [] (plain (λ _. usize) ∷ mutSlice 1 tt (λ _. u8) ∷ []) (plain (λ _. N.the-row)) (f.ended .kept) N′.mir
     (λ κs. (uint-vals w64, (slice-vals, tt))) #g (Said 𝓤 H 𝓜 𝓖 𝓡) (λ κs. (uint-tells w64, (mut-slice-tells (named 1) (κs .1 .0) u8, tt))) (f.clauses 𝓤 H (𝓖 .A) (𝓜 .mem) (𝓡 .run)) code.function
     #f (code.unfolded 𝓤 H 𝓜 𝓡) (promised 𝓤 H 𝓜 𝓖 𝓡)
     (λ κs a K day list are. runs 𝓤 H (𝓖 .A) (rules 𝓤 H 𝓜 𝓖 𝓡 code.env) (calls-of 𝓤 H 𝓜 𝓖 𝓡 code.env) (loops 𝓤 H 𝓜 𝓖 𝓡 code.env) (frames 𝓤 H 𝓜 𝓖 𝓡 code.env) _ _ _ _ _ K

@@ -25,7 +25,7 @@ use Rattle.ledger.proofs.SlotAnswer.Laws as N′
 use Rattle.jobs.proofs.Promises.{list-shown}
 use Rattle.jobs.proofs.Setting.{rules, calls, loops, frames}
 use Rattle.jobs.proofs.Runs.{runs-four}
-use Rattle.jobs.proofs.Handed.{on-rows, Promises, hands-on}
+use Rattle.jobs.proofs.Handed.{a-day, on-rows, Promises, hands-on}
 use Rattle.jobs.proofs.rows.copy_out.Symbol.{name as #copy-out}
 use Rattle.jobs.proofs.by_value.slot as g
 use Rattle.jobs.proofs.by_value.slot.Symbol as g-def
@@ -41,7 +41,7 @@ module _ {M : Type 1} (𝓤 : URA M) (H : Heap 𝓤) (𝓜 : Model 𝓤 H) (𝓖
   abbrev Said : (κs : Lfts 2) (a : Args f.signature κs) → Res f.signature κs → Lasts f.ended κs a → SProp 𝓤
   Said κs a r ws = g.clauses 𝓤 H (𝓖 .A) (𝓜 .mem) (𝓡 .run) (κs .1) (on-rows a) .ensures tt r (atExit g.ended (κs .1) (on-rows a) ws)
 
-  promised : Promises 𝓤 H 𝓜 𝓖 𝓡 code.env code.calls-jobs·rows·copy-out 1 [] (shrSlice 1 tt (λ _. u16) ∷ plain (λ _. u16) ∷ []) (plain (λ _. N.the-row)) (f.ended .kept) N′.mir
+  promised : Promises 𝓤 H 𝓜 𝓖 𝓡 code.env code.calls-jobs·rows·copy-out a-day 1 [] (shrSlice 1 tt (λ _. u16) ∷ plain (λ _. u16) ∷ []) (plain (λ _. N.the-row)) (f.ended .kept) N′.mir
       (λ κs. (slice-vals, (uint-vals w16, tt))) #g Said
   promised κs qs a v =
       cited 𝓤 H (tripleOf 𝓤 H (𝓖 .A) g.signature (g.spec 𝓤 H (𝓖 .A) (𝓜 .mem) (𝓡 .run))) 𝓜 𝓡 code.env #g g-def.routine code.calls-jobs·by-value·slot (g-thm.met 𝓤 H 𝓜 𝓖 𝓡)
@@ -50,7 +50,7 @@ module _ {M : Type 1} (𝓤 : URA M) (H : Heap 𝓤) (𝓜 : Model 𝓤 H) (𝓖
 pub slot-spec : {M : Type 1} → stated.statement M
 unfolding code.routine
 slot-spec 𝓤 H 𝓜 𝓖 𝓡 =
-    hands-on 𝓤 H 𝓜 𝓖 𝓡 code.env code.calls-jobs·rows·copy-out 1 [] (shrSlice 1 tt (λ _. u16) ∷ plain (λ _. u16) ∷ []) (plain (λ _. N.the-row)) (f.ended .kept) N′.mir
+    hands-on 𝓤 H 𝓜 𝓖 𝓡 code.env code.calls-jobs·rows·copy-out a-day 1 [] (shrSlice 1 tt (λ _. u16) ∷ plain (λ _. u16) ∷ []) (plain (λ _. N.the-row)) (f.ended .kept) N′.mir
     (λ κs. (slice-vals, (uint-vals w16, tt))) #g (Said 𝓤 H 𝓜 𝓖 𝓡) (λ κs. (shr-slice-tells (named 1) (κs .1 .0) u16, (uint-tells w16, tt))) (f.clauses 𝓤 H (𝓖 .A) (𝓜 .mem) (𝓡 .run)) code.function
     #f (code.unfolded 𝓤 H 𝓜 𝓡) (promised 𝓤 H 𝓜 𝓖 𝓡)
     (λ κs a K day list are. runs-four 𝓤 H (𝓖 .A) (rules 𝓤 H 𝓜 𝓖 𝓡 code.env) (calls 𝓤 H 𝓜 𝓖 𝓡 code.env) (loops 𝓤 H 𝓜 𝓖 𝓡 code.env) (frames 𝓤 H 𝓜 𝓖 𝓡 code.env) _ _ _ _ _ _ _ _ _ #copy-out #g _ _ _ _ K
