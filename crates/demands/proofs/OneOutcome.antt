@@ -4,7 +4,7 @@ use Rattle.day.specs.declared.Answer.{Answer}
 use Rattle.day.specs.Refusal.{_then_, Passed}
 use Rattle.day.proofs.Cases.{give}
 use Rattle.day.proofs.Refusal.{IsCheck, then-unique}
-use Rattle.day.proofs.Check.{slots-is-check, power-is-check, jobs-is-check, list-is-check}
+use Rattle.day.proofs.Check.{slots-is-check, power-is-check, jobs-is-check, times-is-check, list-is-check}
 use Rattle.day.proofs.Numbering.{numbering-unique}
 use Rattle.planner.proofs.Promise.{plan-unique}
 use Rattle.claim.proofs.Promise.{judged-unique, priced-unique, chosen-unique, handed-unique, next-unique}
@@ -32,6 +32,7 @@ one-outcome =
       check-slots = λ limit slots. check-unique slots-is-check;
       check-power = λ power. check-unique power-is-check;
       check-rows = λ limit slots w. check-unique jobs-is-check;
+      check-times = λ slots w. check-unique times-is-check;
       check-list = λ day w. check-unique list-is-check;
       number-rows = numbering-unique;
       plan = λ day w starts table x y p q.

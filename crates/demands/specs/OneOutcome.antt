@@ -11,7 +11,7 @@ use Rattle.day.specs.declared.Day.{Day}
 use Rattle.day.specs.declared.Job.{Job}
 use Rattle.day.specs.Windows.{Windows}
 use Rattle.day.specs.Refusal.{_then_, Passed}
-use Rattle.day.specs.Check.{SlotsCheck, PowerCheck, JobsCheck, ListCheck}
+use Rattle.day.specs.Check.{SlotsCheck, PowerCheck, JobsCheck, TimesCheck, ListCheck}
 use Rattle.day.specs.Numbering.{Numbering}
 use Rattle.planner.specs.Promise.{PlanPromise}
 use Rattle.claim.specs.Claim.{Priced}
@@ -37,6 +37,7 @@ pub record OneOutcome : Type 0 where
   pub check-slots : (limit slots : ℕ) → AtMostOne (SlotsCheck limit slots then Passed)
   pub check-power : (power : Power) → AtMostOne (PowerCheck power then Passed)
   pub check-rows : (limit slots : ℕ) (w : Windows) → AtMostOne (JobsCheck limit slots w then Passed)
+  pub check-times : (slots : ℕ) (w : Windows) → AtMostOne (TimesCheck slots w then Passed)
   pub check-list : (day : Day) (w : Windows) → AtMostOne (ListCheck day w then Passed)
   pub number-rows : (deadlines order : List ℕ) → AtMostOne (Numbering deadlines order)
   -- planner
