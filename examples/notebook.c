@@ -1,6 +1,6 @@
-/* What the notebook's firmware does with a day: P8 of document 01 is planned, priced, looked at, moved, written and read back.
- * Run, from the repository's root: rt staticlib jobs, then
- *     cc -O2 -I include examples/notebook.c target/staticlib/libjobs.a -o target/notebook && target/notebook */
+/* What the notebook's firmware does with a day: the list of examples/p8.day is checked, planned, priced, looked at, moved, written and read
+ * back. Run, from the repository's root, after rt staticlib jobs:
+ *     cc -O2 examples/notebook.c target/staticlib/libjobs.a -o target/notebook && target/notebook */
 #include "../include/chaskuri.h"
 
 int printf(const char *, ...);
@@ -26,6 +26,13 @@ int main(void) {
     chaskuri_job jobs[3] = {{0, 1}, {2, 8}, {9, 10}}, read[40];
     uint16_t starts[3], server[3] = {0, 5, 9};
     uint8_t file[64] = "notes";
+
+    chaskuri_answer checked = chaskuri_check(8, jobs, 3);
+    printf("checked for a day of 8: code %u, row %u\n", (unsigned)checked.code, (unsigned)checked.first);
+    checked = chaskuri_check(day.slots, jobs, 3);
+    printf("checked for a day of 10: code %u\n", (unsigned)checked.code);
+    if (checked.code != CHASKURI_DONE)
+        return 1;
 
     chaskuri_answer planned = chaskuri_plan(day, jobs, 3, starts, 3, table, sizeof table / sizeof *table);
     printf("plan: code %u, cost %u\n", (unsigned)planned.code, (unsigned)planned.first);

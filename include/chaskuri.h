@@ -1,11 +1,28 @@
-/* Chaskuri: plans one-slot jobs on a machine that can sleep, at least cost. Link with libjobs.a.
+/* Chaskuri: plans one-slot jobs on a machine that can sleep, at least cost. Link with libjobs.a, which `rt staticlib jobs` makes for x86-64; of
+ * the C library it needs memcpy and memset.
  *
- * The words are those of the project's document 01. A day has slots 0 to slots-1, from 1 to 96 of them; waking costs 0 to 1000; a list has at
- * most 40 jobs. Rows are counted from 1 in answers. Starts stand in row order, one for each job.
+ * Words
+ *   Day: slots 0 to slots-1, from 1 to 96 of them. Waking costs `wake`, 0 to 1000.
+ *   Job: a record of a list, which has at most 40. It fills one slot of its window. Rows are counted from 1 in answers.
+ *   Start: the slot that a job fills. The starts of a plan stand in row order, one for each job.
+ *   Proper: a plan in which each job starts in its window, and no two in the same slot.
+ *   Gap: a longest run of empty slots with a job somewhere before it and one after it. Before the first job and after the last there is none.
+ *   Price of a gap of g slots: the smaller of g and wake. With g < wake the machine is awake, with g >= wake it is asleep.
+ *   Cost of a plan: the sum over its gaps. Without jobs it is 0.
+ *   Number: jobs are numbered by deadline, equal deadlines by row.
+ *   Tie rule: of the cheapest proper plans the one whose highest-numbered job starts latest; among those, whose next highest starts latest; and
+ *     so on. So exactly one plan is right.
+ *   Day file: notes of any length; release and deadline of each row; then the number of rows, slots, wake, the distance back from the file's end
+ *     to the first row, 4 * rows + 10, and the mark, bytes 80 and 76. Numbers have 16 bits, the low byte first.
  *
- * A buffer goes in as a pointer and its length. The pointer is aligned and not null, also where the length is 0. A buffer that a call writes
- * overlaps no other buffer of that call. Nothing else is asked: what a call cannot take it refuses by a code. No call allocates, keeps a
- * pointer, or touches memory that it was not lent. What is said of each call below is proved, in crates/jobs. */
+ * Memory
+ *   A buffer goes in as a pointer and its length, which counts elements, not bytes. The pointer is not null, also where the length is 0, and
+ *   aligned: to 2 for numbers and records, to 1 for bytes. A buffer that a call writes overlaps no other buffer of that call; buffers that it
+ *   only reads may overlap. What a call fills (starts, table, the room for read jobs, the file) needs no value before. Nothing else is
+ *   asked: what a call cannot take it refuses by a code.
+ *   No call allocates, keeps a pointer or any state, or touches memory that it was not lent: calls may run side by side in threads, as long as
+ *   none writes a buffer that another was lent. Of stack chaskuri_plan takes at most 10,384 bytes, every other call less than 1,100: that is
+ *   measured, by bench/stack.c with the kit rattle-kit-5b. What is said of each call below is proved, in crates/jobs. */
 #ifndef CHASKURI_H
 #define CHASKURI_H
 
@@ -16,7 +33,7 @@
 extern "C" {
 #endif
 
-/* A job may start in any slot from `release` on, and ends by `deadline`, the first slot after its window. */
+/* A job may start in the slots `release` to `deadline` - 1, its window: release < deadline <= slots. */
 typedef struct {
     uint16_t release;
     uint16_t deadline;
@@ -69,13 +86,14 @@ typedef struct {
 } chaskuri_slot_answer;
 
 enum chaskuri_filling {
-    CHASKURI_BEFORE = 0,
+    CHASKURI_BEFORE = 0, /* before the first job; every slot where there is no job */
     CHASKURI_JOB = 1,
-    CHASKURI_AWAKE = 2,
-    CHASKURI_ASLEEP = 3,
-    CHASKURI_AFTER = 4
+    CHASKURI_AWAKE = 2,  /* in a gap spent awake */
+    CHASKURI_ASLEEP = 3, /* in a gap slept through */
+    CHASKURI_AFTER = 4   /* after the last job */
 };
 
+/* 17 is the program's alone: its input is above 4,096 bytes. */
 enum chaskuri_code {
     CHASKURI_DONE = 0,            /* planner and pricing: first is the cost */
     CHASKURI_BAD_SLOTS = 1,       /* no slots, or more than 96 */
@@ -98,13 +116,18 @@ enum chaskuri_code {
     CHASKURI_NO_SUCH_SLOT = 19    /* the slot asked for is not of the day */
 };
 
-/* How many places of the work table a plan of so many jobs on a day of so many slots needs. */
+/* How many places of the work table a plan of so many jobs on a day of so many slots needs: 401,841 are enough for any. */
 #define CHASKURI_TABLE_PLACES(jobs, slots) (((size_t)(jobs) + 1) * ((size_t)(slots) + 3) * ((size_t)(slots) + 3))
+
+/* Judges a day's length and a list, as a caller asks before it keeps the list. A wake is not asked for.
+ * Refuses by 1, 3, 4, in that order. Writes nothing. */
+chaskuri_answer chaskuri_check(uint16_t slots, const chaskuri_job *jobs, size_t count);
 
 /* Plans the list at least cost; of the cheapest plans, the one of the tie rule.
  * Refuses by 1, 2, 3, 4, 5, 6, 7, in that order.
  * On 0 the first `count` starts are the plan's. On 0 and 7 the needed places of the table are set to zero. Nothing else is written. */
-chaskuri_answer chaskuri_plan(chaskuri_day day, const chaskuri_job *jobs, size_t count, uint16_t *starts, size_t starts_len, uint16_t *table, size_t table_len);
+chaskuri_answer chaskuri_plan(chaskuri_day day, const chaskuri_job *jobs, size_t count, uint16_t *starts, size_t starts_len, uint16_t *table,
+                              size_t table_len);
 
 /* What a claimed plan costs. Of the starts only the first `count` matter.
  * Refuses by 1, 2, 3, 4, 5, 14 over all rows, then 15. Writes nothing. */
@@ -113,7 +136,8 @@ chaskuri_answer chaskuri_price(chaskuri_day day, const chaskuri_job *jobs, size_
 /* Which of two claimed plans wins: the cheaper proper one, at equal cost the notebook's own. First: 1, own, or 2, the server's. A plan with too
  * few starts is not proper. The winner's part is its first `count` starts, where they lie.
  * Refuses by 1, 2, 3, 4, 16. Writes nothing. */
-chaskuri_answer chaskuri_which(chaskuri_day day, const chaskuri_job *jobs, size_t count, const uint16_t *own, size_t own_len, const uint16_t *server, size_t server_len);
+chaskuri_answer chaskuri_which(chaskuri_day day, const chaskuri_job *jobs, size_t count, const uint16_t *own, size_t own_len,
+                               const uint16_t *server, size_t server_len);
 
 /* Counts the slots of a claimed plan by what fills them.
  * Refuses as pricing. Writes nothing. */
@@ -121,7 +145,8 @@ chaskuri_ledger_answer chaskuri_ledger(chaskuri_day day, const chaskuri_job *job
 
 /* What fills one slot of a claimed plan.
  * Refuses as pricing, then by 19. Writes nothing. */
-chaskuri_slot_answer chaskuri_slot(chaskuri_day day, const chaskuri_job *jobs, size_t count, const uint16_t *starts, size_t starts_len, uint16_t slot);
+chaskuri_slot_answer chaskuri_slot(chaskuri_day day, const chaskuri_job *jobs, size_t count, const uint16_t *starts, size_t starts_len,
+                                   uint16_t slot);
 
 /* Moves every window by `by` slots, in the lent list; a positive number is later.
  * Refuses by 1, 3, 4, 18. On 0 every job is written; else nothing is. */
