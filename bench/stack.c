@@ -1,5 +1,5 @@
-// How much stack each call of the library takes. A call runs on a stack of its own, painted before, and what it changed of the paint is
-// counted down to the deepest byte. Run, from the repository's root, after rt staticlib jobs:
+// How much stack each call of the library takes, with what its caller puts there for it. A call runs on a stack of its own, painted before, and
+// the bytes down to the deepest that it changed are counted. Run, from the repository's root, after rt staticlib jobs:
 //     gcc -O2 bench/stack.c target/staticlib/libjobs.a -o target/stack && target/stack
 #define _XOPEN_SOURCE 700
 #include "../include/chaskuri.h"
@@ -14,9 +14,8 @@ static chaskuri_day day;
 static chaskuri_job jobs[MOST_JOBS + 1], room[MOST_JOBS];
 static size_t count;
 static uint16_t starts[MOST_JOBS], table[CHASKURI_TABLE_PLACES(MOST_JOBS, MOST_SLOTS)];
-static uint8_t file[4 * MOST_JOBS + 10];
+static uint8_t file[4 * (MOST_JOBS + 1) + 10];
 
-static void nothing(void) {}
 static void check(void) { chaskuri_check(day.slots, jobs, count); }
 static void plan(void) { chaskuri_plan(day, jobs, count, starts, MOST_JOBS, table, sizeof table / sizeof *table); }
 static void price(void) { chaskuri_price(day, jobs, count, starts, MOST_JOBS); }
@@ -34,9 +33,12 @@ static const struct {
              {"slot", slot},   {"move", move}, {"write", write}, {"read", read}};
 enum { CALLS = sizeof calls / sizeof *calls };
 
-static unsigned char stack[1 << 16];
+static unsigned char stack[1 << 16], *top;
 
-static size_t depth_over(void (*call)(void), unsigned char paint) {
+// Where the stack of a function begins: above its return address and the frame pointer that it saved.
+static void mark_top(void) { top = (unsigned char *)__builtin_frame_address(0) + 2 * sizeof(void *); }
+
+static void run(void (*call)(void), unsigned char paint) {
     static ucontext_t here, there;
     memset(stack, paint, sizeof stack);
     getcontext(&there);
@@ -45,10 +47,14 @@ static size_t depth_over(void (*call)(void), unsigned char paint) {
     there.uc_link = &here;
     makecontext(&there, call, 0);
     swapcontext(&here, &there);
-    size_t untouched = 0;
-    while (untouched < sizeof stack && stack[untouched] == paint)
-        untouched++;
-    return sizeof stack - untouched;
+}
+
+static size_t depth_over(void (*call)(void), unsigned char paint) {
+    run(call, paint);
+    unsigned char *deepest = stack;
+    while (deepest < top && *deepest == paint)
+        deepest++;
+    return (size_t)(top - deepest);
 }
 
 // Two paints, so that a byte which happens to be one of them still counts.
@@ -87,12 +93,13 @@ static void make_list(unsigned list) {
 }
 
 int main(void) {
-    size_t most[CALLS] = {0}, empty = depth(nothing);
+    size_t most[CALLS] = {0};
+    run(mark_top, 0);
     for (unsigned list = 0; list < LISTS; list++) {
         make_list(list);
         for (int i = 0; i < CALLS; i++) {
             calls[i].call(); // once before it is counted: the dynamic linker works on the first call
-            size_t taken = depth(calls[i].call) - empty;
+            size_t taken = depth(calls[i].call);
             if (taken > most[i])
                 most[i] = taken;
         }
