@@ -8,7 +8,7 @@ use Rattle.day.specs.Windows.{windows, at}
 use Rattle.day.specs.Answer.{says, leaves-day}
 use Rattle.day.specs.Refusal.{stops, goes-on}
 use Rattle.day.proofs.Cases.{on-le}
-use Rattle.day.proofs.Refusal.{then-unique}
+use Rattle.day.proofs.Refusal.{then-unique, then-clear}
 use Rattle.day.proofs.Check.{good-rows-clear}
 use Rattle.moving.proofs.Moving.{move-is-check}
 use Rattle.moving.proofs.Ends.{too-early, early-stays, too-late, late-stays, smallest-leaves}
@@ -33,8 +33,9 @@ moves-at-ends =
           then-unique (move-is-check slots (negsuc 32767) (windows releases deadlines)) (λ x y s t. s ∙ sym t) a (says leaves-day 1 0)
           (tried .promised .answer)
           (stops
-          (goes-on (λ b r. ⊎-elim (λ z. omega (arith, tried .some-slots)) (λ z. omega (arith, tried .slots-taken)) (r .fault))
-          (goes-on (good-rows-clear (tried .rows))
+          (goes-on
+          (then-clear (λ b r. ⊎-elim (λ z. omega (arith, tried .some-slots)) (λ z. omega (arith, tried .slots-taken)) (r .fault))
+          (good-rows-clear (tried .rows)))
           (record {
             row = 0;
             first =
@@ -46,7 +47,7 @@ moves-at-ends =
                   lowest = λ j h. absurd (omega arith);
                 };
             says = refl;
-          }))));
+          })));
       zero = λ slots releases deadlines a rs ds tried.
           zero-shift-keeps (tried .some-slots) (tried .slots-taken) (tried .rows) (tried .promised);
     }
