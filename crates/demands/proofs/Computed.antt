@@ -1,21 +1,32 @@
--- Tests of a list of numbers: that it is accepted, that its rows are numbered by counting, and what its best plan is by the rule.
--- Assumes nothing.
+-- Tests of a list of numbers: that it is accepted, that its rows are numbered by counting, and what its best plan is by the rule; and of what the
+-- planner promises. Assumes nothing.
 use Prim.Native.Nat.{ℕ, zero, suc, _+_, _≤_, _<_}
-use mathlib.Core.Path.{_≡_}
+use mathlib.Core.Path.{_≡_, ap}
 use mathlib.Core.Bool.{cond}
+use mathlib.Core.List.{List}
 use native.Mathlib.Omega.{arith}
 use lib.Dec.{eqb}
+use lib.ListN.{length}
+use Rattle.day.specs.declared.Answer.{Answer}
 use Rattle.day.specs.declared.Day.{Day}
-use Rattle.day.specs.Windows.{Windows}
+use Rattle.day.specs.Windows.{Windows, at}
 use Rattle.day.specs.Plan.{Plan, NoPlan}
 use Rattle.day.specs.Number.{Lower, Numbered}
+use Rattle.day.specs.Gap.{cost}
 use Rattle.day.specs.Best.{Best}
+use Rattle.day.specs.Answer.{says, done, no-plan}
+use Rattle.day.specs.Refusal.{stops, goes-on}
+use Rattle.day.specs.Zero.{zeroed}
 use Rattle.day.specs.Check.{most-slots, most-wake, most-jobs, GoodRows, Accepted}
 use Rattle.day.proofs.Bound.{cost-at-most-slots}
 use Rattle.rule.specs.Extreme.{latest}
 use Rattle.rule.specs.Whole.{whole, whole-back, Ready}
 use Rattle.rule.proofs.Whole.{whole-none, whole-best}
-use Rattle.demands.proofs.Test.{Test, less, at-most, equal, both, either, through, all-below}
+use Rattle.planner.specs.Table.{need}
+use Rattle.planner.specs.Promise.{costs, Planned, PlanCheck}
+use Rattle.planner.proofs.Promise.{planned-refused}
+use Rattle.demands.proofs.Test.{Test, less, at-most, equal, both, either, through, differ, is-less, all-below, same-numbers, same-from, same-answer}
+use Rattle.demands.proofs.ExamplesChecked.{Judge, judge-then, judge-whole, judge-list}
 
 abbrev rows-test : (limit slots : ℕ) (w : Windows) → Test (GoodRows limit slots w)
 rows-test limit slots w =
@@ -88,3 +99,33 @@ unfoldable pub no-plan-test : (day : Day) (w : Windows) → Test (Accepted day w
 no-plan-test day w =
     through (λ t. (t .0 .0, whole-none day w (row w) (none-of day) (ready day w (t .0 .0) (t .0 .1)) (t .1)))
     (both (both (accepted-test day w) (numbered-test w)) (at-most (none-of day) (whole day w (row w) (none-of day))))
+
+abbrev pub judge-plan : (day : Day) (w : Windows) (starts table : List ℕ) → Judge (PlanCheck day w starts table)
+judge-plan day w starts table =
+    judge-then (judge-list day w)
+    (judge-then (judge-whole _ (is-less (length starts) (w .count))) (judge-whole _ (is-less (length table) (need (day .slots) (w .count)))))
+
+module _ {Check : Answer → Type 0} (judge : Judge Check) (need : ℕ) (day : Day) (w : Windows) (starts table : List ℕ) where
+  -- a refusal, which leaves both lists as they were
+  abbrev pub refused-plan : (a : Answer) (starts-after table-after : List ℕ) → Test (Planned Check need day w starts table a starts-after table-after)
+  refused-plan a starts-after table-after =
+      through
+      (λ t. rw (t .1 .0, t .1 .1) (planned-refused Check need day w starts table a (stops (t .0 .0)) (t .0 .1 .0) (t .0 .1 .1)))
+      (both (both (judge .refuses a) (both (differ (a .code) done) (differ (a .code) no-plan)))
+      (both (same-numbers starts-after starts) (same-numbers table-after table)))
+
+  -- the best plan, and a table that is set to zero
+  abbrev pub best-plan : (a : Answer) (starts-after table-after : List ℕ) → Test (Planned Check need day w starts table a starts-after table-after)
+  best-plan a starts-after table-after =
+      through
+      (λ t.
+      record {
+        answer = goes-on (t .0 .0) (costs (at starts-after) (t .0 .1 .1) (t .1 .0));
+        planned = λ e. record { long = t .1 .1 .0 .0; best = t .0 .1 .1; later = t .1 .1 .0 .1 };
+        unplanned = λ n. absurd (n (ap (λ (x : Answer). x .code) (t .1 .0)));
+        cleared = λ e. t .1 .1 .1;
+        kept = λ n m. absurd (n (ap (λ (x : Answer). x .code) (t .1 .0)));
+      })
+      (both (both (judge .clear) (best-test day w (at starts-after)))
+      (both (same-answer a (says done (cost day (w .count) (at starts-after)) 0))
+      (both (same-from (w .count) starts starts-after) (same-numbers table-after (zeroed need table)))))

@@ -1,4 +1,4 @@
--- P1 to P10 hold: one computed test over the table, and a law that turns it into what each row says. Assumes nothing.
+-- The examples of planning hold: one computed test over each table, and a law that turns it into what each row says. Assumes nothing.
 use Prim.Native.Nat.{ℕ, suc, _≤_, _<_}
 use mathlib.Core.Path.{_≡_, refl, sym, _∙_, ap, subst}
 use mathlib.Core.List.{List, [], _∷_, _++_, map}
@@ -23,10 +23,12 @@ use Rattle.rule.specs.Span.{in-span, clear, may-split, value-by, value, sides, 
 use Rattle.planner.specs.Table.{need}
 use Rattle.demands.specs.Run.{Run, list, Promised, Served}
 use Rattle.demands.specs.BestPlan.{BestGiven}
-use Rattle.demands.specs.Examples.{Amount, exactly, up-to, at-least, Is, Example, Plans, Shows, Holds, examples, ExamplesHold}
+use Rattle.demands.specs.Examples.{Amount, exactly, up-to, at-least, Is, Example, Plans, Shows, Holds, examples, ExamplesHold, Lent, PlansTo, refused-plans, RefusedPlansHold}
 use Rattle.demands.proofs.Test.{Test, less, at-most, equal, fails, both, either, through, all-in}
-use Rattle.demands.proofs.Computed.{accepted-test, number, row, best-test, no-plan-test}
+use Rattle.demands.proofs.ExamplesChecked.{shown-test}
+use Rattle.demands.proofs.Computed.{accepted-test, number, row, best-test, no-plan-test, judge-plan, refused-plan}
 use Rattle.demands.proofs.BestPlan.{best-or-none, short-given}
+use Rattle.demands.proofs.OneOutcome.{one-outcome}
 
 -- what is known of an example, with a day and its list
 
@@ -245,3 +247,14 @@ example-test e =
 pub examples-hold : ExamplesHold
 unfolding examples example-test known-test best-known none-known short-known best-test no-plan-test need number row latest least in-span clear may-split value-by value far-price price sides best-split split read-back cost total gaps gaps-since ended taken
 examples-hold = all-in example-test examples .shows refl
+
+abbrev refused-test : (lent : Lent) (after : Answer × List ℕ × List ℕ) → Test (PlansTo lent after)
+refused-test lent after =
+    refused-plan (judge-plan (lent .day) (lent .rows) (lent .starts) (lent .table)) (need (lent .day .slots) (lent .rows .count)) (lent .day)
+    (lent .rows) (lent .starts) (lent .table) (after .0) (after .1) (after .2)
+
+pub refused-plans-hold : RefusedPlansHold
+unfolding refused-plans need
+refused-plans-hold =
+    all-in (shown-test (λ lent. one-outcome .plan (lent .day) (lent .rows) (lent .starts) (lent .table)) refused-test) refused-plans .shows
+    refl

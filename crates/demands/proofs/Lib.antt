@@ -10,8 +10,13 @@ pub mod MovingEnds
 pub mod Ledger
 pub mod Text
 pub mod Test
+pub mod ExamplesChecked
 pub mod Computed
 pub mod Examples
+pub mod ExamplesOfClaims
+pub mod ExamplesOfLedger
+pub mod ExamplesOfMoving
+pub mod ExamplesOfFiles
 pub mod OneOutcome
 pub mod WrongPrograms
 pub mod Impostors

@@ -1,13 +1,16 @@
 -- Tests that antt computes: each comes with what it shows where it passes. Assumes nothing.
 use Prim.Native.Nat.{ℕ, zero, suc, _≤_, _<_}
-use mathlib.Core.Path.{_≡_, refl}
-use mathlib.Core.Bool.{Bool, true, false, _&&_, _||_}
+use mathlib.Core.Path.{_≡_, refl, sym, _∙_}
+use mathlib.Core.Bool.{Bool, true, false, not, _&&_, _||_}
 use mathlib.Core.List.{List, [], _∷_}
 use mathlib.Core.Logic.{_⊎_, inl, inr, ⊎-elim}
 use native.Mathlib.Omega.{arith}
 use lib.Dec.{ltb, leb, eqb}
+use lib.ListN.{length, List·getD-eq-default}
 use borrow.Author.Tests.{ltb-true, leb-true, eqb-true}
-use Rattle.day.proofs.Cases.{on-eq, not-both, and-left, and-right, or-cases}
+use Rattle.day.specs.declared.Answer.{Answer}
+use Rattle.day.specs.Windows.{at}
+use Rattle.day.proofs.Cases.{on-le, on-eq, not-both, and-left, and-right, or-cases}
 use Rattle.demands.specs.Examples.{Each, none, one}
 
 pub record Test (P : Type 0) : Type 0 where
@@ -22,6 +25,16 @@ at-most a b = record { passes = leb a b; shows = leb-true a b }
 
 abbrev pub equal : (a b : ℕ) → Test (a ≡ b)
 equal a b = record { passes = eqb a b; shows = eqb-true a b }
+
+abbrev pub is-true : (b : Bool) → Test (b ≡ true)
+is-true b = record { passes = b; shows = λ h. h }
+
+pub not-true : (b : Bool) → not b ≡ true → b ≡ false
+not-true true h = sym h
+not-true false h = refl
+
+abbrev pub is-false : (b : Bool) → Test (b ≡ false)
+is-false b = record { passes = not b; shows = not-true b }
 
 abbrev pub holds : {P : Type 0} → P → Test P
 holds p = record { passes = true; shows = λ h. p }
@@ -47,6 +60,44 @@ either s t =
 abbrev pub through : {P Q : Type 0} → (P → Q) → Test P → Test Q
 through f t = record { passes = t .passes; shows = λ h. f (t .shows h) }
 
+-- a number is not another
+abbrev pub differ : (a b : ℕ) → Test (a ≡ b → ⊥)
+differ a b = through (⊎-elim (λ l e. omega arith) (λ l e. omega arith)) (either (less a b) (less b a))
+
+-- two ways to go by a number's being another
+abbrev pub by-equal : {P Q : Type 0} (a b : ℕ) → Test P → Test Q → Test ((a ≡ b → P) × ((a ≡ b → ⊥) → Q))
+by-equal a b s t =
+    through (⊎-elim (λ f. (λ e. f .1, λ n. absurd (n (f .0)))) (λ f. (λ e. absurd (f .0 e), λ n. f .1)))
+    (either (both (equal a b) s) (both (differ a b) t))
+
+-- a test of P, and one that P does not hold
+pub record Decided (P : Type 0) : Type 0 where
+  pub yes : Test P
+  pub no : Test (P → ⊥)
+
+abbrev pub is-less : (a b : ℕ) → Decided (a < b)
+is-less a b = record { yes = less a b; no = through (λ l h. omega arith) (at-most b a) }
+
+abbrev pub is-at-most : (a b : ℕ) → Decided (a ≤ b)
+is-at-most a b = record { yes = at-most a b; no = through (λ l h. omega arith) (less b a) }
+
+abbrev pub is-equal : (a b : ℕ) → Decided (a ≡ b)
+is-equal a b = record { yes = equal a b; no = differ a b }
+
+abbrev pub is-not : {P : Type 0} → Decided P → Decided (P → ⊥)
+is-not d = record { yes = d .no; no = through (λ p n. n p) (d .yes) }
+
+abbrev pub is-both : {P Q : Type 0} → Decided P → Decided Q → Decided (P × Q)
+is-both d e =
+    record {
+      yes = both (d .yes) (e .yes);
+      no = through (⊎-elim (λ n p. n (p .0)) (λ n p. n (p .1))) (either (d .no) (e .no));
+    }
+
+abbrev pub is-either : {P Q : Type 0} → Decided P → Decided Q → Decided (P ⊎ Q)
+is-either d e =
+    record { yes = either (d .yes) (e .yes); no = through (λ n. ⊎-elim (n .0) (n .1)) (both (d .no) (e .no)) }
+
 -- one number more
 pub next-below : {P : ℕ → Type 0} (n : ℕ) → P n → ((i : ℕ) → i < n → P i) → (i : ℕ) → i < suc n → P i
 next-below n p f i l = on-eq i n (λ q. rw q p) (λ q. f i (omega arith))
@@ -55,6 +106,38 @@ next-below n p f i l = on-eq i n (λ q. rw q p) (λ q. f i (omega arith))
 abbrev pub all-below : {P : ℕ → Type 0} → ((i : ℕ) → Test (P i)) → (n : ℕ) → Test ((i : ℕ) → i < n → P i)
 all-below t zero = holds (λ i l. absurd (omega arith))
 all-below t (suc n) = through (λ f. next-below n (f .0) (f .1)) (both (t n) (all-below t n))
+
+-- one of the numbers below n
+abbrev pub some-below : {P : ℕ → Type 0} → ((i : ℕ) → Test (P i)) → (n : ℕ) → Test ((i : ℕ) × (i < n) × P i)
+some-below t zero = fails
+some-below t (suc n) =
+    through (⊎-elim (λ p. (n, omega arith, p)) (λ f. (f .0, omega (arith, f .1), f .2))) (either (t n) (some-below t n))
+
+abbrev pub same-numbers : (xs ys : List ℕ) → Test (xs ≡ ys)
+same-numbers [] [] = holds refl
+same-numbers [] (y ∷ ys) = fails
+same-numbers (x ∷ xs) [] = fails
+same-numbers (x ∷ xs) (y ∷ ys) = through (λ f. rw (f .0, f .1)) (both (equal x y) (same-numbers xs ys))
+
+pub beyond-both : (n : ℕ) (old new : List ℕ) → length new ≡ length old
+    → ((i : ℕ) → i < length old → (i < n) ⊎ (at new i ≡ at old i)) → (i : ℕ) → n ≤ i → at new i ≡ at old i
+beyond-both n old new same each i h =
+    on-le (length old) i
+    (λ l. List·getD-eq-default new 0 (omega (arith, same)) ∙ sym (List·getD-eq-default old 0 l))
+    (λ l. ⊎-elim (λ b. absurd (omega arith)) (λ e. e) (each i l))
+
+-- a list as long as another, with the same numbers from place n on
+abbrev pub same-from : (n : ℕ) (old new : List ℕ)
+    → Test ((length new ≡ length old) × ((i : ℕ) → n ≤ i → at new i ≡ at old i))
+same-from n old new =
+    through (λ f. (f .0, beyond-both n old new (f .0) (f .1)))
+    (both (equal (length new) (length old))
+    (all-below {P = λ i. (i < n) ⊎ (at new i ≡ at old i)} (λ i. either (less i n) (equal (at new i) (at old i))) (length old)))
+
+abbrev pub same-answer : (a b : Answer) → Test (a ≡ b)
+same-answer a b =
+    through (λ f. rw (f .0, f .1 .0, f .1 .1))
+    (both (equal (a .code) (b .code)) (both (equal (a .first) (b .first)) (equal (a .second) (b .second))))
 
 -- one test for each entry of a list
 abbrev pub all-in : {A : Type 0} {P : A → Type 0} → ((x : A) → Test (P x)) → (xs : List A) → Test (Each P xs)

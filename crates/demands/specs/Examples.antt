@@ -1,11 +1,18 @@
--- P1 to P10 of document 01: one table, and what a row of it says of the planner.
+-- Examples of planning, with document 01's own numbers: P1 to P10 and a day of 96 slots, and what is refused. What a table of examples says of
+-- any promise stands here too.
 use Prim.Native.Nat.{ℕ, _≤_}
 use mathlib.Core.Path.{_≡_}
 use mathlib.Core.List.{List, [], _∷_, _++_, map}
-use lib.ListN.{length, drop}
-use Rattle.day.specs.Answer.{says, done, short-table, no-plan}
-use Rattle.day.specs.Check.{most-wake}
+use lib.ListN.{length, replicate, drop}
+use Rattle.day.specs.declared.Answer.{Answer}
+use Rattle.day.specs.declared.Day.{Day}
+use Rattle.day.specs.Windows.{Windows, windows}
+use Rattle.planner.specs.Promise.{PlanPromise}
 use Rattle.demands.specs.Run.{Run, Promised}
+
+-- code, first and second number
+abbrev pub answer-of : ℕ → ℕ → ℕ → Answer
+answer-of code first second = record { code = code; first = first; second = second }
 
 -- how much an example says a number is
 pub data Amount : Type 0 where
@@ -41,7 +48,7 @@ pub record Plans (e : Example) (run : Run) : Type 0 where
 
 -- the run has the example's answer, and the example's starts before what the lent list held after them
 pub record Shows (e : Example) (run : Run) : Type 0 where
-  pub answer : run .answer ≡ says (e .code) (e .first) 0
+  pub answer : run .answer ≡ answer-of (e .code) (e .first) 0
   pub starts : run .starts-after ≡ e .starts ++ drop (length (e .starts)) (run .starts)
 
 abbrev pub Holds : Example → Type 0
@@ -59,36 +66,118 @@ day-of jobs slots wake places code first starts =
 unfoldable pub examples : List Example
 examples =
     -- P1
-    day-of [] 1 (exactly 5) (at-least 16) done 0 []
-    ∷ day-of [] 1 (exactly 5) (exactly 15) short-table 0 []
+    day-of [] 1 (exactly 5) (at-least 16) 0 0 []
+    ∷ day-of [] 1 (exactly 5) (exactly 15) 6 0 []
     -- P2
-    ∷ day-of ((0, 1) ∷ []) 1 (up-to most-wake) (at-least 32) done 0 (0 ∷ [])
+    ∷ day-of ((0, 1) ∷ []) 1 (up-to 1000) (at-least 32) 0 0 (0 ∷ [])
     -- P3
-    ∷ day-of ((0, 1) ∷ (0, 1) ∷ []) 1 (up-to most-wake) (at-least 48) no-plan 0 []
+    ∷ day-of ((0, 1) ∷ (0, 1) ∷ []) 1 (up-to 1000) (at-least 48) 7 0 []
     -- P4
-    ∷ day-of ((0, 2) ∷ (0, 2) ∷ []) 2 (exactly 1) (at-least 75) done 0 (0 ∷ 1 ∷ [])
-    ∷ day-of ((0, 2) ∷ (0, 2) ∷ (0, 2) ∷ []) 2 (up-to most-wake) (at-least 100) no-plan 0 []
+    ∷ day-of ((0, 2) ∷ (0, 2) ∷ []) 2 (exactly 1) (at-least 75) 0 0 (0 ∷ 1 ∷ [])
+    ∷ day-of ((0, 2) ∷ (0, 2) ∷ (0, 2) ∷ []) 2 (up-to 1000) (at-least 100) 7 0 []
     -- P5
-    ∷ day-of ((0, 4) ∷ (3, 6) ∷ []) 6 (exactly 3) (at-least 243) done 0 (3 ∷ 4 ∷ [])
-    ∷ day-of ((3, 6) ∷ (0, 4) ∷ []) 6 (exactly 3) (at-least 243) done 0 (4 ∷ 3 ∷ [])
+    ∷ day-of ((0, 4) ∷ (3, 6) ∷ []) 6 (exactly 3) (at-least 243) 0 0 (3 ∷ 4 ∷ [])
+    ∷ day-of ((3, 6) ∷ (0, 4) ∷ []) 6 (exactly 3) (at-least 243) 0 0 (4 ∷ 3 ∷ [])
     -- P6
-    ∷ day-of ((0, 6) ∷ (4, 6) ∷ []) 6 (exactly 3) (at-least 243) done 0 (4 ∷ 5 ∷ [])
+    ∷ day-of ((0, 6) ∷ (4, 6) ∷ []) 6 (exactly 3) (at-least 243) 0 0 (4 ∷ 5 ∷ [])
     -- P7
-    ∷ day-of ((0, 1) ∷ (4, 5) ∷ []) 5 (exactly 0) (at-least 192) done 0 (0 ∷ 4 ∷ [])
-    ∷ day-of ((0, 1) ∷ (4, 5) ∷ []) 5 (exactly 2) (at-least 192) done 2 (0 ∷ 4 ∷ [])
-    ∷ day-of ((0, 1) ∷ (4, 5) ∷ []) 5 (exactly 3) (at-least 192) done 3 (0 ∷ 4 ∷ [])
-    ∷ day-of ((0, 1) ∷ (4, 5) ∷ []) 5 (exactly 4) (at-least 192) done 3 (0 ∷ 4 ∷ [])
+    ∷ day-of ((0, 1) ∷ (4, 5) ∷ []) 5 (exactly 0) (at-least 192) 0 0 (0 ∷ 4 ∷ [])
+    ∷ day-of ((0, 1) ∷ (4, 5) ∷ []) 5 (exactly 2) (at-least 192) 0 2 (0 ∷ 4 ∷ [])
+    ∷ day-of ((0, 1) ∷ (4, 5) ∷ []) 5 (exactly 3) (at-least 192) 0 3 (0 ∷ 4 ∷ [])
+    ∷ day-of ((0, 1) ∷ (4, 5) ∷ []) 5 (exactly 4) (at-least 192) 0 3 (0 ∷ 4 ∷ [])
     -- P8
-    ∷ day-of ((0, 1) ∷ (2, 8) ∷ (9, 10) ∷ []) 10 (exactly 3) (at-least 676) done 4 (0 ∷ 7 ∷ 9 ∷ [])
-    ∷ day-of ((0, 1) ∷ (2, 8) ∷ (9, 10) ∷ []) 10 (exactly 1) (at-least 676) done 2 (0 ∷ 7 ∷ 9 ∷ [])
+    ∷ day-of ((0, 1) ∷ (2, 8) ∷ (9, 10) ∷ []) 10 (exactly 3) (at-least 676) 0 4 (0 ∷ 7 ∷ 9 ∷ [])
+    ∷ day-of ((0, 1) ∷ (2, 8) ∷ (9, 10) ∷ []) 10 (exactly 1) (at-least 676) 0 2 (0 ∷ 7 ∷ 9 ∷ [])
     -- P9, whole and in its two parts
-    ∷ day-of ((0, 2) ∷ (1, 3) ∷ (6, 8) ∷ []) 8 (exactly 3) (at-least 484) done 3 (1 ∷ 2 ∷ 7 ∷ [])
-    ∷ day-of ((0, 2) ∷ (1, 3) ∷ []) 8 (exactly 3) (at-least 363) done 0 (1 ∷ 2 ∷ [])
-    ∷ day-of ((6, 8) ∷ []) 8 (exactly 3) (at-least 242) done 0 (7 ∷ [])
+    ∷ day-of ((0, 2) ∷ (1, 3) ∷ (6, 8) ∷ []) 8 (exactly 3) (at-least 484) 0 3 (1 ∷ 2 ∷ 7 ∷ [])
+    ∷ day-of ((0, 2) ∷ (1, 3) ∷ []) 8 (exactly 3) (at-least 363) 0 0 (1 ∷ 2 ∷ [])
+    ∷ day-of ((6, 8) ∷ []) 8 (exactly 3) (at-least 242) 0 0 (7 ∷ [])
     -- P10
-    ∷ day-of ((0, 2) ∷ (1, 3) ∷ (5, 6) ∷ []) 6 (exactly 3) (at-least 324) done 2 (1 ∷ 2 ∷ 5 ∷ [])
+    ∷ day-of ((0, 2) ∷ (1, 3) ∷ (5, 6) ∷ []) 6 (exactly 3) (at-least 324) 0 2 (1 ∷ 2 ∷ 5 ∷ [])
+    -- T 96 accepted
+    ∷ day-of [] 96 (exactly 5) (at-least 9801) 0 0 []
     ∷ []
 
--- P1 to P10
 abbrev pub ExamplesHold : Type 0
 ExamplesHold = Each Holds examples
+
+-- A table for any promise: a row is an input and the outcome that document 01 shows for it.
+
+infix 68 _gives_
+abbrev pub _gives_ : {Input Outcome : Type 0} → Input → Outcome → Input × Outcome
+input gives outcome = (input, outcome)
+
+-- the row's outcome keeps the promise for the row's input, and no other does
+pub record Shown {Input Outcome : Type 0} (Promise : Input → Outcome → Type 0) (row : Input × Outcome) : Type 0 where
+  pub keeps : Promise (row .0) (row .1)
+  pub only : (other : Outcome) → Promise (row .0) other → other ≡ row .1
+
+abbrev pub Table : {Input Outcome : Type 0} → (Input → Outcome → Type 0) → List (Input × Outcome) → Type 0
+Table Promise rows = Each (Shown Promise) rows
+
+-- T and L
+abbrev pub day-with : ℕ → ℕ → Day
+day-with slots wake = record { slots = slots; power = record { wake = wake } }
+
+abbrev pub releases-of : List (ℕ × ℕ) → List ℕ
+releases-of = map (λ j. j .0)
+
+abbrev pub deadlines-of : List (ℕ × ℕ) → List ℕ
+deadlines-of = map (λ j. j .1)
+
+abbrev pub rows-of : List (ℕ × ℕ) → Windows
+rows-of jobs = windows (releases-of jobs) (deadlines-of jobs)
+
+-- P8's rows
+abbrev pub P8 : List (ℕ × ℕ)
+P8 = (0, 1) ∷ (2, 8) ∷ (9, 10) ∷ []
+
+-- What the planner refuses.
+
+-- what is planned, and the starts and the work table that are lent
+pub record Lent : Type 0 where
+  pub day : Day
+  pub rows : Windows
+  pub starts : List ℕ
+  pub table : List ℕ
+
+-- rows, T, L, and how many places there are for starts and in the work table; each holds 9
+abbrev pub plan-of : List (ℕ × ℕ) → ℕ → ℕ → ℕ → ℕ → Lent
+plan-of jobs slots wake room places =
+    record { day = day-with slots wake; rows = rows-of jobs; starts = replicate room 9; table = replicate places 9 }
+
+-- the answer, with starts and table afterwards
+abbrev pub PlansTo : Lent → Answer × List ℕ × List ℕ → Type 0
+PlansTo lent after = PlanPromise (lent .day) (lent .rows) (lent .starts) (lent .table) (after .0) (after .1) (after .2)
+
+-- a refusal with code and first number leaves both lists as they were
+abbrev pub refused-by : Lent → ℕ → ℕ → Lent × (Answer × List ℕ × List ℕ)
+refused-by lent code first = lent gives (answer-of code first 0, lent .starts, lent .table)
+
+unfoldable pub refused-plans : List (Lent × (Answer × List ℕ × List ℕ))
+refused-plans =
+    -- T 0 and T 97, and also where L is too large
+    refused-by (plan-of [] 0 5 0 9) 1 0
+    ∷ refused-by (plan-of [] 97 5 0 9) 1 0
+    ∷ refused-by (plan-of [] 0 1001 0 9) 1 0
+    -- L 1,001, and also where there are too many rows
+    ∷ refused-by (plan-of [] 1 1001 0 16) 2 0
+    ∷ refused-by (plan-of (replicate 41 (0, 1)) 1 1001 41 0) 2 0
+    -- 41 rows, and also where they are empty; 40 are not too many, and only the table is too short
+    ∷ refused-by (plan-of (replicate 41 (0, 1)) 1 5 41 0) 3 0
+    ∷ refused-by (plan-of (replicate 41 (3, 3)) 6 5 41 0) 3 0
+    ∷ refused-by (plan-of (replicate 40 (0, 1)) 1 5 40 0) 6 0
+    -- (3,3), also in a later row and where there is no place for a start; d = T + 1
+    ∷ refused-by (plan-of ((3, 3) ∷ []) 6 3 1 162) 4 1
+    ∷ refused-by (plan-of ((0, 4) ∷ (3, 3) ∷ (4, 4) ∷ []) 6 3 0 0) 4 2
+    ∷ refused-by (plan-of ((0, 6) ∷ (0, 7) ∷ []) 6 3 2 243) 4 2
+    -- fewer places than jobs, and also where the table is too short
+    ∷ refused-by (plan-of ((0, 2) ∷ (0, 2) ∷ []) 2 1 1 75) 5 0
+    ∷ refused-by (plan-of ((0, 2) ∷ (0, 2) ∷ []) 2 1 1 0) 5 0
+    -- a work table one place too short, also where there is no plan
+    ∷ refused-by (plan-of [] 1 5 0 15) 6 0
+    ∷ refused-by (plan-of ((0, 1) ∷ (0, 1) ∷ []) 1 5 2 47) 6 0
+    ∷ []
+
+abbrev pub RefusedPlansHold : Type 0
+RefusedPlansHold = Table PlansTo refused-plans

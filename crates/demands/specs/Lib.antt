@@ -10,6 +10,10 @@ pub mod Moving
 pub mod Ledger
 pub mod Text
 pub mod Examples
+pub mod ExamplesOfClaims
+pub mod ExamplesOfLedger
+pub mod ExamplesOfMoving
+pub mod ExamplesOfFiles
 pub mod OneOutcome
 pub mod Impostors
 pub mod Demands
