@@ -12,20 +12,22 @@ use Rattle.day.specs.declared.Day.{Day}
 use Rattle.day.specs.Windows.{Windows, at}
 use Rattle.day.specs.Plan.{Plan, NoPlan}
 use Rattle.day.specs.Number.{Lower, Numbered}
-use Rattle.day.specs.Gap.{cost}
+use Rattle.day.specs.Gap.{price, cost}
+use Rattle.day.specs.Far.{far-price}
 use Rattle.day.specs.Best.{Best}
 use Rattle.day.specs.Answer.{says, done, no-plan}
 use Rattle.day.specs.Refusal.{stops, goes-on}
 use Rattle.day.specs.Zero.{zeroed}
 use Rattle.day.specs.Check.{most-slots, most-wake, most-jobs, GoodRows, Accepted}
 use Rattle.day.proofs.Bound.{cost-at-most-slots}
-use Rattle.rule.specs.Extreme.{latest}
+use Rattle.rule.specs.Extreme.{least, latest}
+use Rattle.rule.specs.Span.{in-span, clear, may-split, value-by, value, sides, best-split, split, read-back}
 use Rattle.rule.specs.Whole.{whole, whole-back, Ready}
 use Rattle.rule.proofs.Whole.{whole-none, whole-best}
 use Rattle.planner.specs.Table.{need}
-use Rattle.planner.specs.Promise.{costs, Planned, PlanCheck}
+use Rattle.planner.specs.Promise.{costs, none-proper, Planned, PlanCheck}
 use Rattle.planner.proofs.Promise.{planned-refused}
-use Rattle.demands.proofs.Test.{Test, less, at-most, equal, both, either, through, differ, is-less, all-below, same-numbers, same-from, same-answer}
+use Rattle.demands.proofs.Test.{Test, less, at-most, equal, both, either, any-of, through, differ, is-less, all-below, same-numbers, same-from, same-answer}
 use Rattle.demands.proofs.ExamplesChecked.{Judge, judge-then, judge-whole, judge-list}
 
 abbrev rows-test : (limit slots : ℕ) (w : Windows) → Test (GoodRows limit slots w)
@@ -87,6 +89,7 @@ ready day w accepted numbered =
 
 -- p is the best plan of an accepted list
 unfoldable pub best-test : (day : Day) (w : Windows) (p : Plan) → Test (Accepted day w × Best day w p)
+unfolding number row latest least in-span clear may-split value-by value far-price price sides best-split split read-back
 best-test day w p =
     through
     (λ t. (t .0 .0, whole-best day w (row w) (none-of day) (ready day w (t .0 .0) (t .0 .1)) (t .1 .0) p (t .1 .1)))
@@ -96,6 +99,7 @@ best-test day w p =
 
 -- an accepted list has no plan
 unfoldable pub no-plan-test : (day : Day) (w : Windows) → Test (Accepted day w × NoPlan w)
+unfolding number row latest least in-span clear may-split value-by value far-price price sides best-split split read-back
 no-plan-test day w =
     through (λ t. (t .0 .0, whole-none day w (row w) (none-of day) (ready day w (t .0 .0) (t .0 .1)) (t .1)))
     (both (both (accepted-test day w) (numbered-test w)) (at-most (none-of day) (whole day w (row w) (none-of day))))
@@ -129,3 +133,23 @@ module _ {Check : Answer → Type 0} (judge : Judge Check) (need : ℕ) (day : D
       (both (both (judge .clear) (best-test day w (at starts-after)))
       (both (same-answer a (says done (cost day (w .count) (at starts-after)) 0))
       (both (same-from (w .count) starts starts-after) (same-numbers table-after (zeroed need table)))))
+
+  -- there is no plan: the starts are as they were, and the table is set to zero
+  abbrev pub no-plan-given : (a : Answer) (starts-after table-after : List ℕ) → Test (Planned Check need day w starts table a starts-after table-after)
+  no-plan-given a starts-after table-after =
+      through
+      (λ t.
+      record {
+        answer = goes-on (t .0 .0) (none-proper (t .0 .1 .1) (t .1 .0));
+        planned = λ e. absurd (omega (arith, e, ap (λ (x : Answer). x .code) (t .1 .0)));
+        unplanned = λ n. t .1 .1 .0;
+        cleared = λ e. t .1 .1 .1;
+        kept = λ n m. absurd (m (ap (λ (x : Answer). x .code) (t .1 .0)));
+      })
+      (both (both (judge .clear) (no-plan-test day w))
+      (both (same-answer a (says no-plan 0 0)) (both (same-numbers starts-after starts) (same-numbers table-after (zeroed need table)))))
+
+  abbrev pub planned : (a : Answer) (starts-after table-after : List ℕ) → Test (Planned Check need day w starts table a starts-after table-after)
+  planned a starts-after table-after =
+      any-of (refused-plan a starts-after table-after)
+      (any-of (best-plan a starts-after table-after) (no-plan-given a starts-after table-after))

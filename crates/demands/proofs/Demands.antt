@@ -10,7 +10,11 @@ use Rattle.demands.proofs.Moving.{moved-accepted, moving-keeps}
 use Rattle.demands.proofs.MovingEnds.{leaves-at-ends, moves-at-ends}
 use Rattle.demands.proofs.Ledger.{ledger-balances, ledger-outer, row-shown}
 use Rattle.demands.proofs.Text.{prints-decimals}
-use Rattle.demands.proofs.Examples.{examples-hold}
+use Rattle.demands.proofs.Examples.{examples-hold, refused-plans-hold}
+use Rattle.demands.proofs.ExamplesOfClaims.{priced-examples-hold, chosen-examples-hold}
+use Rattle.demands.proofs.ExamplesOfLedger.{ledger-examples-hold, slot-examples-hold}
+use Rattle.demands.proofs.ExamplesOfMoving.{moved-examples-hold}
+use Rattle.demands.proofs.ExamplesOfFiles.{read-examples-hold, written-examples-hold, reported-examples-hold, printed-examples-hold}
 use Rattle.demands.proofs.OneOutcome.{one-outcome}
 use Rattle.demands.proofs.Impostors.{no-impostor}
 
@@ -37,6 +41,16 @@ demands =
       row-shown = row-shown;
       decimals = prints-decimals;
       examples = examples-hold;
+      refused-plans = refused-plans-hold;
+      priced-examples = priced-examples-hold;
+      chosen-examples = chosen-examples-hold;
+      ledger-examples = ledger-examples-hold;
+      slot-examples = slot-examples-hold;
+      moved-examples = moved-examples-hold;
+      read-examples = read-examples-hold;
+      written-examples = written-examples-hold;
+      reported-examples = reported-examples-hold;
+      printed-examples = printed-examples-hold;
       one-outcome = one-outcome;
       no-impostor = no-impostor;
     }

@@ -11,22 +11,19 @@ use Rattle.day.specs.declared.Day.{Day}
 use Rattle.day.specs.Windows.{Windows, windows, at}
 use Rattle.day.specs.Plan.{Plan, NoPlan, taken}
 use Rattle.day.specs.Gap.{price, ended, gaps-since, gaps, total, cost}
-use Rattle.day.specs.Far.{far-price}
 use Rattle.day.specs.Best.{Best}
 use Rattle.day.specs.Answer.{says, done, short-table, no-plan}
 use Rattle.day.specs.Check.{Accepted}
 use Rattle.day.proofs.Cases.{give}
 use Rattle.day.proofs.Gap.{cost-agree}
 use Rattle.day.proofs.Bound.{cost-at-most-wakes}
-use Rattle.rule.specs.Extreme.{least, latest}
-use Rattle.rule.specs.Span.{in-span, clear, may-split, value-by, value, sides, best-split, split, read-back}
 use Rattle.planner.specs.Table.{need}
 use Rattle.demands.specs.Run.{Run, list, Promised, Served}
 use Rattle.demands.specs.BestPlan.{BestGiven}
 use Rattle.demands.specs.Examples.{Amount, exactly, up-to, at-least, Is, Example, Plans, Shows, Holds, examples, ExamplesHold, Lent, PlansTo, refused-plans, RefusedPlansHold}
 use Rattle.demands.proofs.Test.{Test, less, at-most, equal, fails, both, either, through, all-in}
 use Rattle.demands.proofs.ExamplesChecked.{shown-test}
-use Rattle.demands.proofs.Computed.{accepted-test, number, row, best-test, no-plan-test, judge-plan, refused-plan}
+use Rattle.demands.proofs.Computed.{accepted-test, best-test, no-plan-test, judge-plan, refused-plan}
 use Rattle.demands.proofs.BestPlan.{best-or-none, short-given}
 use Rattle.demands.proofs.OneOutcome.{one-outcome}
 
@@ -245,7 +242,7 @@ example-test e =
     (known-test e (e .wake))
 
 pub examples-hold : ExamplesHold
-unfolding examples example-test known-test best-known none-known short-known best-test no-plan-test need number row latest least in-span clear may-split value-by value far-price price sides best-split split read-back cost total gaps gaps-since ended taken
+unfolding examples example-test known-test best-known none-known short-known best-test no-plan-test need cost price total gaps gaps-since ended taken
 examples-hold = all-in example-test examples .shows refl
 
 abbrev refused-test : (lent : Lent) (after : Answer × List ℕ × List ℕ) → Test (PlansTo lent after)

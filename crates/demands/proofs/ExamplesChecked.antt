@@ -1,7 +1,6 @@
 -- Checks in order, tested: that one refuses with a given answer, and that one has nothing to refuse. From these tests of the single checks the
 -- tests of every promise are put together. Assumes nothing.
 use Prim.Native.Nat.{ℕ, _+_, _-_, _≤_, _<_}
-use mathlib.Core.Path.{_≡_}
 use mathlib.Core.Logic.{_⊎_, ⊎-elim}
 use native.Mathlib.Omega.{arith}
 use Rattle.day.specs.declared.Answer.{Answer}

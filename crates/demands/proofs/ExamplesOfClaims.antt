@@ -1,8 +1,8 @@
 -- The examples of pricing and of the choice hold: each row's outcome is tested. Assumes nothing.
-use Prim.Native.Nat.{ℕ, _+_, _≤_, _<_}
-use mathlib.Core.Path.{_≡_, refl}
+use Prim.Native.Nat.{ℕ, _+_, _<_}
+use mathlib.Core.Path.{refl}
 use mathlib.Core.List.{List}
-use mathlib.Core.Logic.{_⊎_, inl, inr, ⊎-elim}
+use mathlib.Core.Logic.{⊎-elim}
 use native.Mathlib.Omega.{arith}
 use lib.ListN.{length}
 use Rattle.day.specs.declared.Answer.{Answer}
@@ -30,7 +30,6 @@ use Rattle.demands.proofs.Test.{
   Test,
   less,
   at-most,
-  equal,
   both,
   either,
   through,

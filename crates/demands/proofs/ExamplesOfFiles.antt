@@ -1,20 +1,16 @@
 -- The examples of reading, writing and planning a day file hold: each row's outcome is tested. Assumes nothing.
-use Prim.Native.Nat.{ℕ, _+_, _-_, _<_, min}
+use Prim.Native.Nat.{ℕ, _+_, _-_, min}
 use mathlib.Core.Path.{_≡_, refl, ap}
-use mathlib.Core.Logic.{⊎-elim}
-use mathlib.Core.List.{List, _++_}
-use lib.ListN.{length, take, drop}
+use mathlib.Core.List.{List, [], _∷_, _++_}
+use lib.ListN.{length, take, drop, replicate}
 use Rattle.day.specs.declared.Answer.{Answer}
 use Rattle.day.specs.declared.Day.{Day}
 use Rattle.day.specs.Windows.{Windows, windows, at}
 use Rattle.day.specs.Plan.{taken}
 use Rattle.day.specs.Gap.{price, asleep, ended, gaps-since, gaps, total, cost}
-use Rattle.day.specs.Far.{far-price}
 use Rattle.day.specs.Zero.{zeroed}
 use Rattle.day.specs.Answer.{says, done}
 use Rattle.day.specs.Check.{most-jobs}
-use Rattle.rule.specs.Extreme.{least, latest}
-use Rattle.rule.specs.Span.{in-span, clear, may-split, value-by, value, sides, best-split, split, read-back}
 use Rattle.claim.specs.Rows.{row-at, holds-job}
 use Rattle.planner.specs.Table.{need}
 use Rattle.ledger.proofs.Column.{gain}
@@ -36,11 +32,15 @@ use Rattle.dayfile.specs.Format.{
   deadline-in,
 }
 use Rattle.dayfile.specs.Reader.{no-reading, FilledFrom, FileCheck, RowsRead, NothingRead, Read}
-use Rattle.dayfile.specs.Writer.{file-length, RoomCheck, Stored, Written}
-use Rattle.ledger.specs.Promise.{no-counts}
+use Rattle.dayfile.specs.Writer.{file-length, RoomCheck, Stored}
+use Rattle.ledger.specs.Promise.{no-counts, Ledgered}
 use Rattle.report.specs.declared.Outcome.{Outcome}
-use Rattle.report.specs.File.{most-bytes, listed, day-of, windows-of, ReaderCheck, FilePlanCheck, no-outcome}
-use Rattle.demands.specs.Examples.{releases-of, deadlines-of}
+use Rattle.report.specs.declared.text.Text.{Text}
+use Rattle.report.specs.Decimal.{digits, decimal}
+use Rattle.report.specs.Lines.{spaced, plan-line, row-line, row-lines, slots-line, lines, Prints}
+use Rattle.report.specs.File.{most-bytes, listed, day-of, windows-of, ReaderCheck, FilePlanCheck, no-outcome, FileReported}
+use Rattle.demands.specs.Examples.{Shown, releases-of, deadlines-of}
+use Rattle.demands.specs.ExamplesOfLedger.{counts-of}
 use Rattle.demands.specs.ExamplesOfFiles.{
   FileRead,
   ReadsTo,
@@ -54,12 +54,15 @@ use Rattle.demands.specs.ExamplesOfFiles.{
   ReportsTo,
   reported-examples,
   ReportedExamplesHold,
+  bytes-in,
+  PrintsAs,
+  printed-examples,
+  PrintedExamplesHold,
 }
 use Rattle.demands.proofs.Test.{
   Test,
   equal,
   both,
-  either,
   through,
   differ,
   by-equal,
@@ -72,9 +75,10 @@ use Rattle.demands.proofs.Test.{
   same-numbers,
   same-from,
   all-in,
+  all-with,
 }
 use Rattle.demands.proofs.ExamplesChecked.{shown-test, Judge, judge-then, judge-whole, Ended, none-left, ended-then}
-use Rattle.demands.proofs.Computed.{number, row as numbered-row, best-test, judge-plan, refused-plan, best-plan}
+use Rattle.demands.proofs.Computed.{best-test, no-plan-test, judge-plan, planned}
 use Rattle.demands.proofs.ExamplesOfLedger.{same-counts, ledger-test}
 use Rattle.demands.proofs.OneOutcome.{one-outcome}
 
@@ -172,44 +176,62 @@ judge-file file starts table =
 nothing-planned : (o : Outcome) → o .count ≡ 0 → o .counts ≡ no-counts → o ≡ no-outcome (o .answer)
 nothing-planned o n counts = rw (n, counts)
 
-module _ (p : FilePlan) (after : Outcome × List ℕ × List ℕ) where
-  abbrev day : Day
-  day = day-of (p .file)
+-- a plan has its rows and its ledger, a refusal neither
+abbrev rows-and-counts : (day : Day) (w : Windows) (starts : List ℕ) (o : Outcome)
+    → Test ((o .answer .code ≡ done → (o .count ≡ w .count) × Ledgered day w starts (record { answer = says done 0 0; counts = o .counts }))
+    × ((o .answer .code ≡ done → ⊥) → o ≡ no-outcome (o .answer)))
+rows-and-counts day w starts o =
+    by-equal (o .answer .code) done
+    (both (equal (o .count) (w .count)) (ledger-test day w starts (record { answer = says done 0 0; counts = o .counts })))
+    (through (λ t. nothing-planned o (t .0) (t .1)) (both (equal (o .count) 0) (same-counts (o .counts) no-counts)))
 
-  abbrev list : Windows
-  list = windows-of (p .file)
+abbrev reported : (file starts table : List ℕ) (o : Outcome) (starts-after table-after : List ℕ)
+    → Test (FileReported file starts table o starts-after table-after)
+reported file starts table o starts-after table-after =
+    through (λ t. record { plan = t .0; count = λ e. t .1 .0 e .0; counts = λ e. t .1 .0 e .1; refused = t .1 .1 })
+    (both
+    (planned (judge-file file starts table) (need (day-of file .slots) (windows-of file .count)) (day-of file) (windows-of file) starts table
+    (o .answer) starts-after table-after)
+    (rows-and-counts (day-of file) (windows-of file) starts-after o))
 
-  abbrev refused-file : Test (ReportsTo p after)
-  refused-file =
-      through
-      (λ t.
-      record {
-        plan = t .0;
-        count = λ e. absurd (t .1 .0 e);
-        counts = λ e. absurd (t .1 .0 e);
-        refused = λ n. nothing-planned (after .0) (t .1 .1 .0) (t .1 .1 .1);
-      })
-      (both
-      (refused-plan (judge-file (p .file) (p .starts) (p .table)) (need (day .slots) (list .count)) day list (p .starts) (p .table)
-      (after .0 .answer) (after .1) (after .2))
-      (both (differ (after .0 .answer .code) done) (both (equal (after .0 .count) 0) (same-counts (after .0 .counts) no-counts))))
-
-  abbrev planned-file : Test (ReportsTo p after)
-  planned-file =
-      through
-      (λ t.
-      record { plan = t .0; count = λ e. t .1 .1 .0; counts = λ e. t .1 .1 .1; refused = λ n. absurd (n (t .1 .0)) })
-      (both
-      (best-plan (judge-file (p .file) (p .starts) (p .table)) (need (day .slots) (list .count)) day list (p .starts) (p .table)
-      (after .0 .answer) (after .1) (after .2))
-      (both (equal (after .0 .answer .code) done)
-      (both (equal (after .0 .count) (list .count))
-      (ledger-test day list (after .1) (record { answer = says done 0 0; counts = after .0 .counts })))))
-
-  abbrev file-test : Test (ReportsTo p after)
-  file-test = through (⊎-elim (λ t. t) (λ t. t)) (either refused-file planned-file)
+abbrev report-test : (p : FilePlan) (after : Outcome × List ℕ × List ℕ) → Test (ReportsTo p after)
+report-test p after = reported (p .file) (p .starts) (p .table) (after .0) (after .1) (after .2)
 
 pub reported-examples-hold : ReportedExamplesHold
-unfolding reported-examples number-at column listed need zeroed best-test number numbered-row latest least in-span clear may-split value-by value far-price price sides best-split split read-back cost total gaps gaps-since ended taken gain holds-job row-at asleep
+unfolding reported-examples number-at column listed need zeroed best-test no-plan-test cost price total gaps gaps-since ended taken gain holds-job row-at asleep
 reported-examples-hold =
-    all-in (shown-test (λ p. one-outcome .plan-file (p .file) (p .starts) (p .table)) file-test) reported-examples .shows refl
+    all-in (shown-test (λ p. one-outcome .plan-file (p .file) (p .starts) (p .table)) report-test) reported-examples .shows refl
+
+abbrev printed : (bytes : List ℕ) (text : Text) → Test (Prints bytes text)
+printed bytes text =
+    through (λ t. record { len = t .0; holds = t .1 })
+    (both (equal (text .len) (length bytes)) (same-numbers (text .bytes) (bytes ++ replicate (512 - length bytes) 0)))
+
+-- the outcome that is printed, and the starts
+abbrev Planning : Type 0
+Planning = Outcome × List ℕ
+
+abbrev print-test : (planning : Planning) (row : List ℕ × (Text × List ℕ)) → Test (Shown PrintsAs row)
+print-test planning =
+    shown-test (λ file. one-outcome .report file (replicate 30625 0))
+    (λ file after.
+    through (λ t. record { outcome = planning .0; starts = planning .1; reported = t .0; prints = t .1 })
+    (both (reported file (replicate most-jobs 0) (replicate 30625 0) (planning .0) (planning .1) (after .1))
+    (printed (lines (planning .0 .answer) (planning .0 .count) (at (planning .1)) (planning .0 .counts)) (after .0))))
+
+abbrev refusal : ℕ → ℕ → Planning
+refusal code first = (no-outcome (says code first 0), replicate most-jobs 0)
+
+plannings : List Planning
+plannings =
+    (record { answer = says 0 4 0; count = 3; counts = counts-of 0 3 1 6 0 }, 0 ∷ 7 ∷ 9 ∷ replicate 37 0)
+    ∷ (record { answer = says 0 0 0; count = 0; counts = counts-of 1 0 0 0 0 }, replicate 40 0)
+    ∷ refusal 7 0
+    ∷ refusal 4 1
+    ∷ refusal 8 0
+    ∷ refusal 17 0
+    ∷ []
+
+pub printed-examples-hold : PrintedExamplesHold
+unfolding printed-examples plannings bytes-in lines plan-line row-line row-lines slots-line spaced decimal digits number-at column listed need zeroed best-test no-plan-test cost price total gaps gaps-since ended taken gain holds-job row-at asleep
+printed-examples-hold = all-with print-test plannings printed-examples .shows refl

@@ -1,14 +1,14 @@
 -- The examples of the ledger and of one slot's record hold: each row's outcome is tested. Assumes nothing.
 use Prim.Native.Nat.{ℕ, zero, suc, _+_, _-_, _≤_, _<_}
 use mathlib.Core.Path.{_≡_, refl}
-use mathlib.Core.Bool.{cond, true, false}
+use mathlib.Core.Bool.{cond}
 use mathlib.Core.List.{List}
 use mathlib.Core.Logic.{_⊎_, ⊎-elim}
 use native.Mathlib.Omega.{arith}
 use lib.Dec.{eqb}
 use Rattle.day.specs.declared.Day.{Day}
 use Rattle.day.specs.declared.Power.{Power}
-use Rattle.day.specs.Windows.{Windows, at}
+use Rattle.day.specs.Windows.{Windows}
 use Rattle.day.specs.Gap.{asleep}
 use Rattle.day.specs.Answer.{done}
 use Rattle.claim.specs.Rows.{row-at, holds-job}
@@ -23,8 +23,7 @@ use Rattle.ledger.specs.Fills.{Empty, InGap, Fills, by-job, before-first, after
 use Rattle.ledger.specs.Count.{none, column, CountedTo, Counted}
 use Rattle.ledger.specs.Promise.{plan-row, no-counts, no-slot, Ledgered}
 use Rattle.ledger.proofs.Column.{gain, counted-block}
-use Rattle.demands.specs.ExamplesOfClaims.{Claim}
-use Rattle.demands.specs.ExamplesOfLedger.{CountedAs, ledger-examples, LedgerExamplesHold, Asked, FilledAs, slot-examples, SlotExamplesHold}
+use Rattle.demands.specs.ExamplesOfLedger.{ledger-examples, LedgerExamplesHold, Asked, FilledAs, slot-examples, SlotExamplesHold}
 use Rattle.demands.proofs.Test.{
   Test,
   less,

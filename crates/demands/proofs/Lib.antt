@@ -1,4 +1,4 @@
--- The proofs of the demands, each under the name of its statement in specs/. Test and Computed are the examples' computed test.
+-- The proofs of the demands, each under the name of its statement in specs/. Test, ExamplesChecked and Computed are the examples' computed tests.
 pub mod BestPlan
 pub mod DayFile
 pub mod Gaps

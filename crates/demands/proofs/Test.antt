@@ -60,6 +60,10 @@ either s t =
 abbrev pub through : {P Q : Type 0} → (P → Q) → Test P → Test Q
 through f t = record { passes = t .passes; shows = λ h. f (t .shows h) }
 
+-- two tests of one thing
+abbrev pub any-of : {P : Type 0} → Test P → Test P → Test P
+any-of s t = through (⊎-elim (λ p. p) (λ p. p)) (either s t)
+
 -- a number is not another
 abbrev pub differ : (a b : ℕ) → Test (a ≡ b → ⊥)
 differ a b = through (⊎-elim (λ l e. omega arith) (λ l e. omega arith)) (either (less a b) (less b a))
@@ -143,3 +147,9 @@ same-answer a b =
 abbrev pub all-in : {A : Type 0} {P : A → Type 0} → ((x : A) → Test (P x)) → (xs : List A) → Test (Each P xs)
 all-in t [] = holds none
 all-in t (x ∷ xs) = through (λ f. one (f .0) (f .1)) (both (t x) (all-in t xs))
+
+-- the same, where each entry's test needs a hint
+abbrev pub all-with : {A H : Type 0} {P : A → Type 0} → ((h : H) (x : A) → Test (P x)) → List H → (xs : List A) → Test (Each P xs)
+all-with t hs [] = holds none
+all-with t [] (x ∷ xs) = fails
+all-with t (h ∷ hs) (x ∷ xs) = through (λ f. one (f .0) (f .1)) (both (t h x) (all-with t hs xs))

@@ -7,7 +7,11 @@ use Rattle.demands.specs.Mirrored.{MirroredAccepted, MirroredAnswer}
 use Rattle.demands.specs.Moving.{MovedAccepted, MovingKeeps, LeavesAtEnds, MovesAtEnds}
 use Rattle.demands.specs.Ledger.{LedgerBalances, LedgerOuter, RowShown}
 use Rattle.demands.specs.Text.{PrintsDecimals}
-use Rattle.demands.specs.Examples.{ExamplesHold}
+use Rattle.demands.specs.Examples.{ExamplesHold, RefusedPlansHold}
+use Rattle.demands.specs.ExamplesOfClaims.{PricedExamplesHold, ChosenExamplesHold}
+use Rattle.demands.specs.ExamplesOfLedger.{LedgerExamplesHold, SlotExamplesHold}
+use Rattle.demands.specs.ExamplesOfMoving.{MovedExamplesHold}
+use Rattle.demands.specs.ExamplesOfFiles.{ReadExamplesHold, WrittenExamplesHold, ReportedExamplesHold, PrintedExamplesHold}
 use Rattle.demands.specs.OneOutcome.{OneOutcome}
 use Rattle.demands.specs.Impostors.{NoImpostor}
 
@@ -36,8 +40,18 @@ pub record Demands : Type 0 where
   pub row-shown : RowShown
   -- the printed text
   pub decimals : PrintsDecimals
-  -- P1 to P10
+  -- examples with document 01's own numbers: P1 to P10, and a table for each entry point
   pub examples : ExamplesHold
+  pub refused-plans : RefusedPlansHold
+  pub priced-examples : PricedExamplesHold
+  pub chosen-examples : ChosenExamplesHold
+  pub ledger-examples : LedgerExamplesHold
+  pub slot-examples : SlotExamplesHold
+  pub moved-examples : MovedExamplesHold
+  pub read-examples : ReadExamplesHold
+  pub written-examples : WrittenExamplesHold
+  pub reported-examples : ReportedExamplesHold
+  pub printed-examples : PrintedExamplesHold
   -- two outcomes are equal
   pub one-outcome : OneOutcome
   -- programs that the promises rule out

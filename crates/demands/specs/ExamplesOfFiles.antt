@@ -1,14 +1,17 @@
 -- Examples of reading and writing a day file and of what the program prints of one, with document 01's own numbers and bytes.
-use Prim.Native.Nat.{ℕ}
+use Prim.Native.Nat.{ℕ, _-_}
+use Prim.Native.Char.{code}
+use Prim.Native.String.{String, [] as no-text, _∷_ as _and-text_}
 use mathlib.Core.List.{List, [], _∷_, _++_}
-use lib.ListN.{drop, replicate}
+use lib.ListN.{length, drop, replicate}
 use Rattle.day.specs.declared.Answer.{Answer}
 use Rattle.day.specs.declared.Day.{Day}
 use Rattle.dayfile.specs.declared.Reading.{Reading}
 use Rattle.dayfile.specs.Reader.{Read}
 use Rattle.dayfile.specs.Writer.{Written}
 use Rattle.report.specs.declared.Outcome.{Outcome}
-use Rattle.report.specs.File.{FileReported}
+use Rattle.report.specs.declared.text.Text.{Text}
+use Rattle.report.specs.File.{FileReported, FilePrinted}
 use Rattle.demands.specs.Examples.{answer-of, _gives_, Table, day-with, releases-of, deadlines-of, P8}
 use Rattle.demands.specs.ExamplesOfLedger.{counts-of}
 
@@ -18,6 +21,14 @@ P8-rows = 0x00 ∷ 0x00 ∷ 0x01 ∷ 0x00 ∷ 0x02 ∷ 0x00 ∷ 0x08 ∷ 0x00 �
 
 abbrev pub P8-file : List ℕ
 P8-file = P8-rows ++ (0x03 ∷ 0x00 ∷ 0x0A ∷ 0x00 ∷ 0x03 ∷ 0x00 ∷ 0x16 ∷ 0x00 ∷ 0x50 ∷ 0x4C ∷ [])
+
+-- P1, and P3 with L 5
+
+abbrev pub P1-file : List ℕ
+P1-file = 0 ∷ 0 ∷ 1 ∷ 0 ∷ 5 ∷ 0 ∷ 10 ∷ 0 ∷ 80 ∷ 76 ∷ []
+
+abbrev pub P3-file : List ℕ
+P3-file = 0 ∷ 0 ∷ 1 ∷ 0 ∷ 0 ∷ 0 ∷ 1 ∷ 0 ∷ 2 ∷ 0 ∷ 1 ∷ 0 ∷ 5 ∷ 0 ∷ 18 ∷ 0 ∷ 80 ∷ 76 ∷ []
 
 -- a file is read into a list of rows
 pub record FileRead : Type 0 where
@@ -47,7 +58,7 @@ read-examples =
     -- the first n rows are filled, and nothing more; notes come first; without rows; T and L are not judged
     read-of P8-file (replicate 3 (7, 7)) gives says-rows 3 10 3 P8
     ∷ read-of (1 ∷ 2 ∷ P8-file) (replicate 5 (7, 7)) gives says-rows 3 10 3 (P8 ++ ((7, 7) ∷ (7, 7) ∷ []))
-    ∷ read-of (0 ∷ 0 ∷ 1 ∷ 0 ∷ 5 ∷ 0 ∷ 10 ∷ 0 ∷ 80 ∷ 76 ∷ []) [] gives says-rows 0 1 5 []
+    ∷ read-of P1-file [] gives says-rows 0 1 5 []
     ∷ read-of (0 ∷ 0 ∷ 255 ∷ 255 ∷ 255 ∷ 255 ∷ 10 ∷ 0 ∷ 80 ∷ 76 ∷ []) [] gives says-rows 0 65535 65535 []
     -- 9 bytes are too short; 10 are not, and their mark is wrong
     ∷ unread [] [] 8
@@ -139,8 +150,45 @@ reported-examples =
     -- then the reader's codes, then the planner's
     ∷ unplanned [] [] [] 8
     ∷ unplanned (0 ∷ 0 ∷ 97 ∷ 0 ∷ 5 ∷ 0 ∷ 10 ∷ 0 ∷ 80 ∷ 76 ∷ []) [] [] 1
-    ∷ unplanned (0 ∷ 0 ∷ 1 ∷ 0 ∷ 5 ∷ 0 ∷ 10 ∷ 0 ∷ 80 ∷ 76 ∷ []) [] (replicate 15 9) 6
+    ∷ unplanned P1-file [] (replicate 15 9) 6
+    -- P3: no plan, and the table set to zero
+    ∷ file-plan P3-file (9 ∷ 9 ∷ []) (replicate 49 9)
+    gives (
+      record { answer = answer-of 7 0 0; count = 0; counts = counts-of 0 0 0 0 0 },
+      9 ∷ 9 ∷ [],
+      replicate 48 0 ++ (9 ∷ []),
+    )
     ∷ []
 
 abbrev pub ReportedExamplesHold : Type 0
 ReportedExamplesHold = Table ReportsTo reported-examples
+
+-- the bytes of a text of plain letters
+unfoldable pub bytes-in : String → List ℕ
+bytes-in no-text = []
+bytes-in (letter and-text text) = code letter ∷ bytes-in text
+
+-- the text, and zeros after it
+abbrev pub text-of : String → Text
+text-of text = record { bytes = bytes-in text ++ replicate (512 - length (bytes-in text)) 0; len = length (bytes-in text) }
+
+-- the text for a file that is planned in a table of 30,625 places, each 0, and the table afterwards
+abbrev pub PrintsAs : List ℕ → Text × List ℕ → Type 0
+PrintsAs file after = FilePrinted file (replicate 30625 0) (after .0) (after .1)
+
+abbrev pub prints : String → Text × List ℕ
+prints text = (text-of text, replicate 30625 0)
+
+unfoldable pub printed-examples : List (List ℕ × (Text × List ℕ))
+printed-examples =
+    P8-file gives prints "plan 0 4\n1 0\n2 7\n3 9\nslots 0 3 1 6 0\n"
+    ∷ P1-file gives prints "plan 0 0\nslots 1 0 0 0 0\n"
+    -- under a refusal only the first line appears
+    ∷ P3-file gives prints "plan 7 0\n"
+    ∷ (0 ∷ 0 ∷ 7 ∷ 0 ∷ 1 ∷ 0 ∷ 6 ∷ 0 ∷ 5 ∷ 0 ∷ 14 ∷ 0 ∷ 80 ∷ 76 ∷ []) gives prints "plan 4 1\n"
+    ∷ [] gives prints "plan 8 0\n"
+    ∷ replicate 4097 0 gives prints "plan 17 0\n"
+    ∷ []
+
+abbrev pub PrintedExamplesHold : Type 0
+PrintedExamplesHold = Table PrintsAs printed-examples
