@@ -211,12 +211,12 @@ printed bytes text =
 abbrev Planning : Type 0
 Planning = Outcome × List ℕ
 
-abbrev print-test : (planning : Planning) (row : List ℕ × (Text × List ℕ)) → Test (Shown PrintsAs row)
+abbrev print-test : (planning : Planning) (row : (List ℕ × ℕ) × (Text × List ℕ)) → Test (Shown PrintsAs row)
 print-test planning =
-    shown-test (λ file. one-outcome .report file (replicate 30625 0))
-    (λ file after.
+    shown-test (λ lent. one-outcome .report (lent .0) (replicate (lent .1) 0))
+    (λ lent after.
     through (λ t. record { outcome = planning .0; starts = planning .1; reported = t .0; prints = t .1 })
-    (both (reported file (replicate most-jobs 0) (replicate 30625 0) (planning .0) (planning .1) (after .1))
+    (both (reported (lent .0) (replicate most-jobs 0) (replicate (lent .1) 0) (planning .0) (planning .1) (after .1))
     (printed (lines (planning .0 .answer) (planning .0 .count) (at (planning .1)) (planning .0 .counts)) (after .0))))
 
 abbrev refusal : ℕ → ℕ → Planning
@@ -226,6 +226,7 @@ plannings : List Planning
 plannings =
     (record { answer = says 0 4 0; count = 3; counts = counts-of 0 3 1 6 0 }, 0 ∷ 7 ∷ 9 ∷ replicate 37 0)
     ∷ (record { answer = says 0 0 0; count = 0; counts = counts-of 1 0 0 0 0 }, replicate 40 0)
+    ∷ refusal 6 0
     ∷ refusal 7 0
     ∷ refusal 4 1
     ∷ refusal 8 0

@@ -117,11 +117,25 @@ some-below t zero = fails
 some-below t (suc n) =
     through (⊎-elim (λ p. (n, omega arith, p)) (λ f. (f .0, omega (arith, f .1), f .2))) (either (t n) (some-below t n))
 
+-- lists are compared as a whole, since a test for each of thousands of numbers is dear
+abbrev pub all-equal : List ℕ → List ℕ → Bool
+all-equal [] [] = true
+all-equal [] (y ∷ ys) = false
+all-equal (x ∷ xs) [] = false
+all-equal (x ∷ xs) (y ∷ ys) = eqb x y && all-equal xs ys
+
+pub all-equal-same : (xs ys : List ℕ) → all-equal xs ys ≡ true → xs ≡ ys
+all-equal-same [] [] h = refl
+all-equal-same [] (y ∷ ys) h = absurd (not-both h refl)
+all-equal-same (x ∷ xs) [] h = absurd (not-both h refl)
+all-equal-same (x ∷ xs) (y ∷ ys) h =
+    rw (
+      eqb-true x y (and-left (eqb x y) (all-equal xs ys) h),
+      all-equal-same xs ys (and-right (eqb x y) (all-equal xs ys) h),
+    )
+
 abbrev pub same-numbers : (xs ys : List ℕ) → Test (xs ≡ ys)
-same-numbers [] [] = holds refl
-same-numbers [] (y ∷ ys) = fails
-same-numbers (x ∷ xs) [] = fails
-same-numbers (x ∷ xs) (y ∷ ys) = through (λ f. rw (f .0, f .1)) (both (equal x y) (same-numbers xs ys))
+same-numbers xs ys = record { passes = all-equal xs ys; shows = all-equal-same xs ys }
 
 pub beyond-both : (n : ℕ) (old new : List ℕ) → length new ≡ length old
     → ((i : ℕ) → i < length old → (i < n) ⊎ (at new i ≡ at old i)) → (i : ℕ) → n ≤ i → at new i ≡ at old i

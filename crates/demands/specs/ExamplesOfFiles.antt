@@ -172,22 +172,25 @@ bytes-in (letter and-text text) = code letter ∷ bytes-in text
 abbrev pub text-of : String → Text
 text-of text = record { bytes = bytes-in text ++ replicate (512 - length (bytes-in text)) 0; len = length (bytes-in text) }
 
--- the text for a file that is planned in a table of 30,625 places, each 0, and the table afterwards
-abbrev pub PrintsAs : List ℕ → Text × List ℕ → Type 0
-PrintsAs file after = FilePrinted file (replicate 30625 0) (after .0) (after .1)
+-- the text for a file that is planned in a table of so many places, each 0, and the table afterwards
+abbrev pub PrintsAs : List ℕ × ℕ → Text × List ℕ → Type 0
+PrintsAs lent after = FilePrinted (lent .0) (replicate (lent .1) 0) (after .0) (after .1)
 
-abbrev pub prints : String → Text × List ℕ
-prints text = (text-of text, replicate 30625 0)
+-- a file, the places of the table, and what is printed; the table is zero again
+abbrev pub prints : List ℕ → ℕ → String → (List ℕ × ℕ) × (Text × List ℕ)
+prints file places text = (file, places) gives (text-of text, replicate places 0)
 
-unfoldable pub printed-examples : List (List ℕ × (Text × List ℕ))
+unfoldable pub printed-examples : List ((List ℕ × ℕ) × (Text × List ℕ))
 printed-examples =
-    P8-file gives prints "plan 0 4\n1 0\n2 7\n3 9\nslots 0 3 1 6 0\n"
-    ∷ P1-file gives prints "plan 0 0\nslots 1 0 0 0 0\n"
+    -- the program's table has 30,625 places
+    prints P8-file 30625 "plan 0 4\n1 0\n2 7\n3 9\nslots 0 3 1 6 0\n"
+    ∷ prints P1-file 16 "plan 0 0\nslots 1 0 0 0 0\n"
     -- under a refusal only the first line appears
-    ∷ P3-file gives prints "plan 7 0\n"
-    ∷ (0 ∷ 0 ∷ 7 ∷ 0 ∷ 1 ∷ 0 ∷ 6 ∷ 0 ∷ 5 ∷ 0 ∷ 14 ∷ 0 ∷ 80 ∷ 76 ∷ []) gives prints "plan 4 1\n"
-    ∷ [] gives prints "plan 8 0\n"
-    ∷ replicate 4097 0 gives prints "plan 17 0\n"
+    ∷ prints P1-file 15 "plan 6 0\n"
+    ∷ prints P3-file 48 "plan 7 0\n"
+    ∷ prints (0 ∷ 0 ∷ 7 ∷ 0 ∷ 1 ∷ 0 ∷ 6 ∷ 0 ∷ 5 ∷ 0 ∷ 14 ∷ 0 ∷ 80 ∷ 76 ∷ []) 162 "plan 4 1\n"
+    ∷ prints [] 16 "plan 8 0\n"
+    ∷ prints (replicate 4097 0) 16 "plan 17 0\n"
     ∷ []
 
 abbrev pub PrintedExamplesHold : Type 0

@@ -26,7 +26,7 @@ slots-of before job awake asleep after =
 abbrev pub no-ledger : Answer → LedgerAnswer
 no-ledger answer = record { answer = answer; counts = counts-of 0 0 0 0 0 }
 
--- a row that has a start of two, and one that ends later
+-- rows that leave slots empty at both ends of a day of nine
 abbrev pub within-the-day : List (ℕ × ℕ)
 within-the-day = (2, 4) ∷ (3, 8) ∷ []
 
