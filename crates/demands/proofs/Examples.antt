@@ -1,14 +1,14 @@
 -- The examples of planning hold: one computed test over each table, and a law that turns it into what each row says. Assumes nothing.
 use Prim.Native.Nat.{ℕ, suc, _≤_, _<_}
 use mathlib.Core.Path.{_≡_, refl, sym, _∙_, ap, subst}
-use mathlib.Core.List.{List, [], _∷_, _++_, map}
+use mathlib.Core.List.{List, [], _∷_, _++_}
 use mathlib.Core.Logic.{_⊎_, inl, inr, ⊎-elim}
 use native.Mathlib.Omega.{arith}
 use lib.ListN.{length, drop, length-map}
 use lib.Seq.{ext-getD}
 use Rattle.day.specs.declared.Answer.{Answer}
 use Rattle.day.specs.declared.Day.{Day}
-use Rattle.day.specs.Windows.{Windows, windows, at}
+use Rattle.day.specs.Windows.{Windows, at}
 use Rattle.day.specs.Plan.{Plan, NoPlan, taken}
 use Rattle.day.specs.Gap.{price, ended, gaps-since, gaps, total, cost}
 use Rattle.day.specs.Best.{Best}
@@ -20,6 +20,7 @@ use Rattle.day.proofs.Bound.{cost-at-most-wakes}
 use Rattle.planner.specs.Table.{need}
 use Rattle.demands.specs.Run.{Run, list, Promised, Served}
 use Rattle.demands.specs.BestPlan.{BestGiven}
+use Rattle.demands.specs.ExamplesTable.{day-with, rows-of}
 use Rattle.demands.specs.Examples.{Amount, exactly, up-to, at-least, Is, Example, Plans, Shows, Holds, examples, ExamplesHold, Lent, PlansTo, refused-plans, RefusedPlansHold}
 use Rattle.demands.proofs.Test.{Test, less, at-most, equal, fails, both, either, through, all-in}
 use Rattle.demands.proofs.ExamplesChecked.{shown-test}
@@ -56,10 +57,10 @@ abbrev Known : Example → Day → Windows → Type 0
 Known e day w = HasBest e day w ⊎ (HasNone e day w ⊎ HasShort e day w)
 
 abbrev day-at : Example → ℕ → Day
-day-at e wake = record { slots = e .slots; power = record { wake = wake } }
+day-at e wake = day-with (e .slots) wake
 
 abbrev list-of : Example → Windows
-list-of e = windows (map (λ j. j .0) (e .jobs)) (map (λ j. j .1) (e .jobs))
+list-of e = rows-of (e .jobs)
 
 -- all that an amount allows is enough
 abbrev enough : (least : ℕ) (m : Amount) → Test ((x : ℕ) → Is m x → least ≤ x)

@@ -10,7 +10,7 @@ use Rattle.day.specs.Answer.{says, done}
 use Rattle.day.specs.Refusal.{_then_, stops, goes-on, Passed, Refuses, First, RefusesRow, FirstPair, RefusesPair}
 use Rattle.day.specs.Check.{most-slots, most-wake, SlotsCheck, JobsCheck, ListCheck}
 use Rattle.day.proofs.Refusal.{then-next, then-clear}
-use Rattle.demands.specs.Examples.{Shown}
+use Rattle.demands.specs.ExamplesTable.{Shown}
 use Rattle.demands.specs.OneOutcome.{AtMostOne}
 use Rattle.demands.proofs.Test.{
   Test,

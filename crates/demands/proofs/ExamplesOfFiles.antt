@@ -39,7 +39,7 @@ use Rattle.report.specs.declared.text.Text.{Text}
 use Rattle.report.specs.Decimal.{digits, decimal}
 use Rattle.report.specs.Lines.{spaced, plan-line, row-line, row-lines, slots-line, lines, Prints}
 use Rattle.report.specs.File.{most-bytes, listed, day-of, windows-of, ReaderCheck, FilePlanCheck, no-outcome, FileReported}
-use Rattle.demands.specs.Examples.{Shown, releases-of, deadlines-of}
+use Rattle.demands.specs.ExamplesTable.{Shown, releases-of, deadlines-of}
 use Rattle.demands.specs.ExamplesOfLedger.{counts-of}
 use Rattle.demands.specs.ExamplesOfFiles.{
   FileRead,

@@ -12,7 +12,7 @@ use Rattle.day.specs.Answer.{done}
 use Rattle.day.specs.Check.{most-slots, most-jobs}
 use Rattle.moving.specs.Moving.{LeavesDay, MoveCheck, RowsMoved, MovedList}
 use Rattle.moving.proofs.Signs.{below, not-below}
-use Rattle.demands.specs.Examples.{releases-of, deadlines-of}
+use Rattle.demands.specs.ExamplesTable.{releases-of, deadlines-of}
 use Rattle.demands.specs.ExamplesOfMoving.{Move, MovesTo, moved-examples, MovedExamplesHold}
 use Rattle.demands.proofs.Test.{
   Test,

@@ -11,7 +11,7 @@ use borrow.Author.Tests.{ltb-true, leb-true, eqb-true}
 use Rattle.day.specs.declared.Answer.{Answer}
 use Rattle.day.specs.Windows.{at}
 use Rattle.day.proofs.Cases.{on-le, on-eq, not-both, and-left, and-right, or-cases}
-use Rattle.demands.specs.Examples.{Each, none, one}
+use Rattle.demands.specs.ExamplesTable.{Each, none, one}
 
 pub record Test (P : Type 0) : Type 0 where
   pub passes : Bool

@@ -1,18 +1,15 @@
--- Examples of planning, with document 01's own numbers: P1 to P10 and a day of 96 slots, and what is refused. What a table of examples says of
--- any promise stands here too.
+-- Examples of planning, with document 01's own numbers: P1 to P10 and a day of 96 slots, and what is refused.
 use Prim.Native.Nat.{ℕ, _≤_}
 use mathlib.Core.Path.{_≡_}
-use mathlib.Core.List.{List, [], _∷_, _++_, map}
+use mathlib.Core.List.{List, [], _∷_, _++_}
 use lib.ListN.{length, replicate, drop}
 use Rattle.day.specs.declared.Answer.{Answer}
 use Rattle.day.specs.declared.Day.{Day}
-use Rattle.day.specs.Windows.{Windows, windows}
+use Rattle.day.specs.Windows.{Windows}
 use Rattle.planner.specs.Promise.{PlanPromise}
 use Rattle.demands.specs.Run.{Run, Promised}
-
--- code, first and second number
-abbrev pub answer-of : ℕ → ℕ → ℕ → Answer
-answer-of code first second = record { code = code; first = first; second = second }
+use Rattle.demands.specs.ExamplesTable.{answer-of, day-with, releases-of, deadlines-of, rows-of, _gives_, Table}
+pub use Rattle.demands.specs.ExamplesTable.{Each, none, one}
 
 -- how much an example says a number is
 pub data Amount : Type 0 where
@@ -39,8 +36,8 @@ pub record Example : Type 0 where
 
 -- the run plans the example's list, with its day and its work table, and with room for the starts
 pub record Plans (e : Example) (run : Run) : Type 0 where
-  pub releases : run .releases ≡ map (λ j. j .0) (e .jobs)
-  pub deadlines : run .deadlines ≡ map (λ j. j .1) (e .jobs)
+  pub releases : run .releases ≡ releases-of (e .jobs)
+  pub deadlines : run .deadlines ≡ deadlines-of (e .jobs)
   pub slots : run .day .slots ≡ e .slots
   pub wake : Is (e .wake) (run .day .power .wake)
   pub places : Is (e .places) (length (run .table))
@@ -53,10 +50,6 @@ pub record Shows (e : Example) (run : Run) : Type 0 where
 
 abbrev pub Holds : Example → Type 0
 Holds e = (run : Run) → Plans e run → Promised run → Shows e run
-
-pub data Each {A : Type 0} (P : A → Type 0) : List A → Type 0 where
-  none : Each P []
-  one : {x : A} {xs : List A} → P x → Each P xs → Each P (x ∷ xs)
 
 -- rows, T, L, places, and then code, first number, starts
 abbrev pub day-of : List (ℕ × ℕ) → ℕ → Amount → Amount → ℕ → ℕ → List ℕ → Example
@@ -101,39 +94,6 @@ examples =
 abbrev pub ExamplesHold : Type 0
 ExamplesHold = Each Holds examples
 
--- A table for any promise: a row is an input and the outcome that document 01 shows for it.
-
-infix 68 _gives_
-abbrev pub _gives_ : {Input Outcome : Type 0} → Input → Outcome → Input × Outcome
-input gives outcome = (input, outcome)
-
--- the row's outcome keeps the promise for the row's input, and no other does
-pub record Shown {Input Outcome : Type 0} (Promise : Input → Outcome → Type 0) (row : Input × Outcome) : Type 0 where
-  pub keeps : Promise (row .0) (row .1)
-  pub only : (other : Outcome) → Promise (row .0) other → other ≡ row .1
-
-abbrev pub Table : {Input Outcome : Type 0} → (Input → Outcome → Type 0) → List (Input × Outcome) → Type 0
-Table Promise rows = Each (Shown Promise) rows
-
--- T and L
-abbrev pub day-with : ℕ → ℕ → Day
-day-with slots wake = record { slots = slots; power = record { wake = wake } }
-
-abbrev pub releases-of : List (ℕ × ℕ) → List ℕ
-releases-of = map (λ j. j .0)
-
-abbrev pub deadlines-of : List (ℕ × ℕ) → List ℕ
-deadlines-of = map (λ j. j .1)
-
-abbrev pub rows-of : List (ℕ × ℕ) → Windows
-rows-of jobs = windows (releases-of jobs) (deadlines-of jobs)
-
--- P8's rows
-abbrev pub P8 : List (ℕ × ℕ)
-P8 = (0, 1) ∷ (2, 8) ∷ (9, 10) ∷ []
-
--- What the planner refuses.
-
 -- what is planned, and the starts and the work table that are lent
 pub record Lent : Type 0 where
   pub day : Day
@@ -154,6 +114,7 @@ PlansTo lent after = PlanPromise (lent .day) (lent .rows) (lent .starts) (lent .
 abbrev pub refused-by : Lent → ℕ → ℕ → Lent × (Answer × List ℕ × List ℕ)
 refused-by lent code first = lent gives (answer-of code first 0, lent .starts, lent .table)
 
+-- what the planner refuses
 unfoldable pub refused-plans : List (Lent × (Answer × List ℕ × List ℕ))
 refused-plans =
     -- T 0 and T 97, and also where L is too large

@@ -7,7 +7,7 @@ use Rattle.day.specs.declared.Day.{Day}
 use Rattle.day.specs.Windows.{Windows}
 use Rattle.claim.specs.Claim.{Priced}
 use Rattle.claim.specs.Choice.{Chosen}
-use Rattle.demands.specs.Examples.{answer-of, _gives_, Table, day-with, rows-of, P8}
+use Rattle.demands.specs.ExamplesTable.{answer-of, _gives_, Table, day-with, rows-of, P8}
 
 pub record Claim : Type 0 where
   pub day : Day

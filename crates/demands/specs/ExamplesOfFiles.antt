@@ -12,7 +12,7 @@ use Rattle.dayfile.specs.Writer.{Written}
 use Rattle.report.specs.declared.Outcome.{Outcome}
 use Rattle.report.specs.declared.text.Text.{Text}
 use Rattle.report.specs.File.{FileReported, FilePrinted}
-use Rattle.demands.specs.Examples.{answer-of, _gives_, Table, day-with, releases-of, deadlines-of, P8}
+use Rattle.demands.specs.ExamplesTable.{answer-of, _gives_, Table, day-with, releases-of, deadlines-of, P8}
 use Rattle.demands.specs.ExamplesOfLedger.{counts-of}
 
 -- P8 with L 3, without notes: its rows, and its trailer

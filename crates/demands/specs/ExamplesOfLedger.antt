@@ -8,7 +8,7 @@ use Rattle.ledger.specs.declared.Counts.{Counts}
 use Rattle.ledger.specs.declared.LedgerAnswer.{LedgerAnswer}
 use Rattle.ledger.specs.declared.SlotAnswer.{SlotAnswer}
 use Rattle.ledger.specs.Promise.{Ledgered, SlotShown}
-use Rattle.demands.specs.Examples.{answer-of, _gives_, Table, P8}
+use Rattle.demands.specs.ExamplesTable.{answer-of, _gives_, Table, P8}
 use Rattle.demands.specs.ExamplesOfClaims.{Claim, claim-of}
 
 abbrev pub CountedAs : Claim → LedgerAnswer → Type 0

@@ -5,7 +5,7 @@ use lib.ListN.{replicate}
 use lib.IntN.{ℤ, pos, negℤ}
 use Rattle.day.specs.declared.Answer.{Answer}
 use Rattle.moving.specs.Moving.{MovedList}
-use Rattle.demands.specs.Examples.{answer-of, _gives_, Table, releases-of, deadlines-of}
+use Rattle.demands.specs.ExamplesTable.{answer-of, _gives_, Table, releases-of, deadlines-of}
 
 -- rows that are moved by so many slots on a day of T slots
 pub record Move : Type 0 where

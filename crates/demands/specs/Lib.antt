@@ -9,6 +9,7 @@ pub mod Mirrored
 pub mod Moving
 pub mod Ledger
 pub mod Text
+pub mod ExamplesTable
 pub mod Examples
 pub mod ExamplesOfClaims
 pub mod ExamplesOfLedger
