@@ -153,15 +153,15 @@ ledger-examples-hold =
     ledger-examples .shows
     refl
 
-pub same-slot : (a b : SlotFill) → a .slot ≡ b .slot → a .fill ≡ b .fill → a ≡ b
+same-slot : (a b : SlotFill) → a .slot ≡ b .slot → a .fill ≡ b .fill → a ≡ b
 same-slot a b p q = rw (p, q)
 
-abbrev same-fill : (f : Fill) → Test (f ≡ Before)
-same-fill Before = holds refl
-same-fill (Job r) = fails
-same-fill Awake = fails
-same-fill Asleep = fails
-same-fill After = fails
+abbrev is-before : (f : Fill) → Test (f ≡ Before)
+is-before Before = holds refl
+is-before (Job r) = fails
+is-before Awake = fails
+is-before Asleep = fails
+is-before After = fails
 
 abbrev slot-test : (asked : Asked) (shown : SlotAnswer) → Test (FilledAs asked shown)
 slot-test asked shown =
@@ -173,7 +173,7 @@ slot-test asked shown =
     (both (equal (shown .held .slot) (asked .slot))
     (fills (asked .claim .day .power) (asked .claim .day .slots) (plan-row (asked .claim .rows) (asked .claim .starts)) (asked .slot) (shown .held .fill)))
     (through (λ f. same-slot (shown .held) no-slot (f .0) (f .1))
-    (both (equal (shown .held .slot) 0) (same-fill (shown .held .fill))))))
+    (both (equal (shown .held .slot) 0) (is-before (shown .held .fill))))))
 
 pub slot-examples-hold : SlotExamplesHold
 unfolding slot-examples latest holds-job row-at asleep
