@@ -6,4 +6,3 @@ pub mod Reader
 pub mod Writer
 pub mod ReadBack
 pub mod Unique
-pub mod Sample

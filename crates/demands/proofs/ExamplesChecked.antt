@@ -8,7 +8,7 @@ use Rattle.day.specs.declared.Day.{Day}
 use Rattle.day.specs.Windows.{Windows}
 use Rattle.day.specs.Answer.{says, done}
 use Rattle.day.specs.Refusal.{_then_, stops, goes-on, Passed, Refuses, First, RefusesRow, FirstPair, RefusesPair}
-use Rattle.day.specs.Check.{most-slots, most-wake, SlotsCheck, JobsCheck, ListCheck}
+use Rattle.day.specs.Check.{most-slots, most-wake, most-jobs, SlotsCheck, JobsCheck, TimesCheck, ListCheck}
 use Rattle.day.proofs.Refusal.{then-next, then-clear}
 use Rattle.demands.specs.ExamplesTable.{Shown}
 use Rattle.demands.specs.OneOutcome.{AtMostOne}
@@ -20,7 +20,7 @@ use Rattle.demands.proofs.Test.{
   both,
   either,
   through,
-  Decided,
+  BothWays,
   is-less,
   is-at-most,
   is-equal,
@@ -51,20 +51,20 @@ judge-then first next =
       clear = through (λ c. then-clear (c .0) (c .1)) (both (first .clear) (next .clear));
     }
 
-abbrev pub judge-whole : (code : ℕ) {Fault : Type 0} → Decided Fault → Judge (Refuses code Fault)
+abbrev pub judge-whole : (code : ℕ) {Fault : Type 0} → BothWays Fault → Judge (Refuses code Fault)
 judge-whole code fault =
     record {
       refuses = λ a. through (λ f. record { fault = f .0; says = f .1 }) (both (fault .yes) (same-answer a (says code 0 0)));
       clear = through (λ n b r. n (r .fault)) (fault .no);
     }
 
-abbrev first-test : {Fault : ℕ → Type 0} → ((i : ℕ) → Decided (Fault i)) → (n i : ℕ) → Test (First n Fault i)
+abbrev first-test : {Fault : ℕ → Type 0} → ((i : ℕ) → BothWays (Fault i)) → (n i : ℕ) → Test (First n Fault i)
 first-test fault n i =
     through (λ f. record { within = f .0; fault = f .1 .0; lowest = f .1 .1 })
     (both (less i n) (both (fault i .yes) (all-below (λ j. fault j .no) i)))
 
 -- the answer names the row, counted from 1
-abbrev pub judge-row : (code n : ℕ) {Fault : ℕ → Type 0} → ((i : ℕ) → Decided (Fault i)) → Judge (RefusesRow code n Fault)
+abbrev pub judge-row : (code n : ℕ) {Fault : ℕ → Type 0} → ((i : ℕ) → BothWays (Fault i)) → Judge (RefusesRow code n Fault)
 judge-row code n fault =
     record {
       refuses = λ a.
@@ -75,14 +75,14 @@ judge-row code n fault =
     }
 
 -- no pair whose first row is below m and whose second is below n
-abbrev no-pair : {Fault : ℕ → ℕ → Type 0} → ((i j : ℕ) → Decided (Fault i j)) → (m n : ℕ)
+abbrev no-pair : {Fault : ℕ → ℕ → Type 0} → ((i j : ℕ) → BothWays (Fault i j)) → (m n : ℕ)
     → Test ((k : ℕ) → k < m → (l : ℕ) → l < n → (l ≤ k) ⊎ (Fault k l → ⊥))
 no-pair {Fault} fault m n =
     all-below {P = λ k. (l : ℕ) → l < n → (l ≤ k) ⊎ (Fault k l → ⊥)}
     (λ k. all-below {P = λ l. (l ≤ k) ⊎ (Fault k l → ⊥)} (λ l. either (at-most l k) (fault k l .no)) n)
     m
 
-abbrev first-pair-test : {Fault : ℕ → ℕ → Type 0} → ((i j : ℕ) → Decided (Fault i j)) → (n i j : ℕ) → Test (FirstPair n Fault i j)
+abbrev first-pair-test : {Fault : ℕ → ℕ → Type 0} → ((i j : ℕ) → BothWays (Fault i j)) → (n i j : ℕ) → Test (FirstPair n Fault i j)
 first-pair-test {Fault} fault n i j =
     through
     (λ f.
@@ -99,7 +99,7 @@ first-pair-test {Fault} fault n i j =
     (all-below {P = λ l. (l ≤ i) ⊎ (Fault i l → ⊥)} (λ l. either (at-most l i) (fault i l .no)) j))))
 
 -- the answer names both rows
-abbrev pub judge-pair : (code n : ℕ) {Fault : ℕ → ℕ → Type 0} → ((i j : ℕ) → Decided (Fault i j)) → Judge (RefusesPair code n Fault)
+abbrev pub judge-pair : (code n : ℕ) {Fault : ℕ → ℕ → Type 0} → ((i j : ℕ) → BothWays (Fault i j)) → Judge (RefusesPair code n Fault)
 judge-pair code n fault =
     record {
       refuses = λ a.
@@ -138,6 +138,9 @@ abbrev pub judge-jobs : (limit slots : ℕ) (w : Windows) → Judge (JobsCheck l
 judge-jobs limit slots w =
     judge-then (judge-whole _ (is-less limit (w .count)))
     (judge-row _ (w .count) (λ i. is-either (is-at-most (w .deadline i) (w .release i)) (is-less slots (w .deadline i))))
+
+abbrev pub judge-times : (slots : ℕ) (w : Windows) → Judge (TimesCheck slots w)
+judge-times slots w = judge-then (judge-slots most-slots slots) (judge-jobs most-jobs slots w)
 
 abbrev pub judge-list : (day : Day) (w : Windows) → Judge (ListCheck day w)
 judge-list day w =

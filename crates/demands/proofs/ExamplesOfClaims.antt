@@ -33,7 +33,7 @@ use Rattle.demands.proofs.Test.{
   both,
   either,
   through,
-  Decided,
+  BothWays,
   is-less,
   is-at-most,
   is-equal,
@@ -46,13 +46,13 @@ use Rattle.demands.proofs.Test.{
 use Rattle.demands.proofs.ExamplesChecked.{shown-test, Judge, answers, judge-then, judge-whole, judge-row, judge-pair, judge-list}
 use Rattle.demands.proofs.OneOutcome.{one-outcome}
 
-abbrev may-start : (w : Windows) (i t : ℕ) → Decided (MayStart w i t)
+abbrev may-start : (w : Windows) (i t : ℕ) → BothWays (MayStart w i t)
 may-start w i t = is-both (is-at-most (w .release i) t) (is-at-most (t + 1) (w .deadline i))
 
-abbrev outside : (w : Windows) (starts : List ℕ) (i : ℕ) → Decided (Outside w starts i)
+abbrev outside : (w : Windows) (starts : List ℕ) (i : ℕ) → BothWays (Outside w starts i)
 outside w starts i = is-not (may-start w i (at starts i))
 
-abbrev together : (starts : List ℕ) (i j : ℕ) → Decided (Together starts i j)
+abbrev together : (starts : List ℕ) (i j : ℕ) → BothWays (Together starts i j)
 together starts i j = is-equal (at starts i) (at starts j)
 
 abbrev judge-starts : (w : Windows) (starts : List ℕ) → Judge (StartsCheck w starts)
@@ -90,7 +90,7 @@ unfit w starts =
     (some-below {P = λ j. (i : ℕ) × (i < w .count) × ((i < j) × Together starts i j)}
     (λ j. some-below (λ i. both (less i j) (together starts i j .yes)) (w .count)) (w .count))))
 
-abbrev is-fit : (w : Windows) (starts : List ℕ) → Decided (Fit w starts)
+abbrev is-fit : (w : Windows) (starts : List ℕ) → BothWays (Fit w starts)
 is-fit w starts = record { yes = through (clear-fit w starts) (judge-starts w starts .clear); no = unfit w starts }
 
 -- where a plan is fit, another is, or it is not and nothing is asked of it

@@ -66,7 +66,7 @@ use Rattle.demands.proofs.Test.{
   through,
   differ,
   by-equal,
-  Decided,
+  BothWays,
   is-less,
   is-equal,
   is-not,
@@ -82,7 +82,7 @@ use Rattle.demands.proofs.Computed.{best-test, no-plan-test, judge-plan
 use Rattle.demands.proofs.ExamplesOfLedger.{same-counts, ledger-test}
 use Rattle.demands.proofs.OneOutcome.{one-outcome}
 
-abbrev is-marked : (file : List ℕ) → Decided (Marked file)
+abbrev is-marked : (file : List ℕ) → BothWays (Marked file)
 is-marked file = is-both (is-equal (at file (length file - 2)) 80) (is-equal (at file (length file - 1)) 76)
 
 abbrev file-checks : (file : List ℕ) (room : ℕ) → Ended (FileCheck file room)

@@ -22,6 +22,7 @@ use Rattle.ledger.specs.declared.SlotAnswer.{SlotAnswer}
 use Rattle.ledger.specs.Fills.{Empty, InGap, Fills, by-job, before-first, after-last, in-awake, in-asleep}
 use Rattle.ledger.specs.Count.{none, column, CountedTo, Counted}
 use Rattle.ledger.specs.Promise.{plan-row, no-counts, no-slot, Ledgered}
+use Rattle.ledger.proofs.InGap.{in-gap}
 use Rattle.ledger.proofs.Column.{gain, counted-block}
 use Rattle.demands.specs.ExamplesOfLedger.{ledger-examples, LedgerExamplesHold, Asked, FilledAs, slot-examples, SlotExamplesHold}
 use Rattle.demands.proofs.Test.{
@@ -75,11 +76,12 @@ module _ (power : Power) (slots : ℕ) (row : ℕ → ℕ) where
       through (λ f u a b. ⊎-elim (λ h. absurd (omega arith)) (λ h. h) (f u b))
       (all-below {P = λ u. (u ≤ lo) ⊎ Empty row u} (λ u. either (at-most u lo) (equal (row u) 0)) hi)
 
-  abbrev in-gap : (t last g : ℕ) → Test (InGap slots row t g)
-  in-gap t last g =
+  abbrev gap-test : (t last g : ℕ) → Test (InGap slots row t g)
+  gap-test t last g =
       through
       (λ f.
-      record {
+      in-gap
+      (record {
         last = last;
         job-before = f .0 .0;
         after-last = f .0 .1;
@@ -87,7 +89,7 @@ module _ (power : Power) (slots : ℕ) (row : ℕ → ℕ) where
         before-next = f .1 .1 .0;
         job-after = f .1 .1 .1 .0;
         within = f .1 .1 .1 .1;
-      })
+      }))
       (both (both (differ (row last) 0) (less last t))
       (both (empty-between last (suc (last + g)))
       (both (at-most t (last + g)) (both (differ (row (last + g + 1)) 0) (less (last + g + 1) slots)))))
@@ -98,10 +100,10 @@ module _ (power : Power) (slots : ℕ) (row : ℕ → ℕ) where
       through (λ f. before-first (λ u l. f u (omega arith))) (all-below {P = Empty row} (λ u. equal (row u) 0) (suc t))
   fills t Awake =
       through (λ f. in-awake (gap-around t) (f .0) (f .1))
-      (both (in-gap t (last-job row t) (gap-around t)) (is-false (asleep power (gap-around t))))
+      (both (gap-test t (last-job row t) (gap-around t)) (is-false (asleep power (gap-around t))))
   fills t Asleep =
       through (λ f. in-asleep (gap-around t) (f .0) (f .1))
-      (both (in-gap t (last-job row t) (gap-around t)) (is-true (asleep power (gap-around t))))
+      (both (gap-test t (last-job row t) (gap-around t)) (is-true (asleep power (gap-around t))))
   fills t After =
       through (λ f. after-last (last-job row t) (f .0) (f .1 .0) (f .1 .1))
       (both (less (last-job row t) t) (both (differ (row (last-job row t)) 0) (empty-between (last-job row t) slots)))

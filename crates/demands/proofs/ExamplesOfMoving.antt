@@ -9,7 +9,6 @@ use Rattle.day.specs.declared.Answer.{Answer}
 use Rattle.day.specs.Windows.{Windows, windows, at}
 use Rattle.day.specs.Change.{Shifts}
 use Rattle.day.specs.Answer.{done}
-use Rattle.day.specs.Check.{most-slots, most-jobs}
 use Rattle.moving.specs.Moving.{LeavesDay, MoveCheck, RowsMoved, MovedList}
 use Rattle.moving.proofs.Signs.{below, not-below}
 use Rattle.demands.specs.ExamplesTable.{releases-of, deadlines-of}
@@ -22,17 +21,17 @@ use Rattle.demands.proofs.Test.{
   both,
   through,
   by-equal,
-  Decided,
+  BothWays,
   is-either,
   all-below,
   same-numbers,
   same-from,
   all-in,
 }
-use Rattle.demands.proofs.ExamplesChecked.{shown-test, Judge, answers, judge-then, judge-row, none-left, judge-slots, judge-jobs}
+use Rattle.demands.proofs.ExamplesChecked.{shown-test, Judge, answers, judge-then, judge-row, none-left, judge-times}
 use Rattle.demands.proofs.OneOutcome.{one-outcome}
 
-abbrev is-below : (a b : ℤ) → Decided (a <ℤ b)
+abbrev is-below : (a b : ℤ) → BothWays (a <ℤ b)
 is-below a b =
     record { yes = record { passes = ltZ a b; shows = below a b }; no = through (not-below a b) (is-false (ltZ a b)) }
 
@@ -44,13 +43,13 @@ is-pos (negsuc m) n = fails
 abbrev shifted : (by : ℤ) (n : ℕ) (xs ys : List ℕ) → Test ((i : ℕ) → i < n → Shifts by (at xs i) (at ys i))
 shifted by n xs ys = all-below (λ i. is-pos (pos (at xs i) +ℤ by) (at ys i)) n
 
-abbrev leaves : (slots : ℕ) (by : ℤ) (w : Windows) (i : ℕ) → Decided (LeavesDay slots by w i)
+abbrev leaves : (slots : ℕ) (by : ℤ) (w : Windows) (i : ℕ) → BothWays (LeavesDay slots by w i)
 leaves slots by w i =
     is-either (is-below (pos (w .release i) +ℤ by) (pos 0)) (is-below (pos slots) (pos (w .deadline i) +ℤ by))
 
 abbrev judge-move : (slots : ℕ) (by : ℤ) (w : Windows) → Judge (MoveCheck slots by w)
 judge-move slots by w =
-    judge-then (judge-slots most-slots slots) (judge-then (judge-jobs most-jobs slots w) (judge-row _ (w .count) (leaves slots by w)))
+    judge-then (judge-times slots w) (judge-row _ (w .count) (leaves slots by w))
 
 abbrev rows-moved : (by : ℤ) (releases deadlines rs ds : List ℕ) → Test (RowsMoved by releases deadlines rs ds)
 rows-moved by releases deadlines rs ds =

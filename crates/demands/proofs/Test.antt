@@ -75,30 +75,30 @@ by-equal a b s t =
     (either (both (equal a b) s) (both (differ a b) t))
 
 -- a test of P, and one that P does not hold
-pub record Decided (P : Type 0) : Type 0 where
+pub record BothWays (P : Type 0) : Type 0 where
   pub yes : Test P
   pub no : Test (P → ⊥)
 
-abbrev pub is-less : (a b : ℕ) → Decided (a < b)
+abbrev pub is-less : (a b : ℕ) → BothWays (a < b)
 is-less a b = record { yes = less a b; no = through (λ l h. omega arith) (at-most b a) }
 
-abbrev pub is-at-most : (a b : ℕ) → Decided (a ≤ b)
+abbrev pub is-at-most : (a b : ℕ) → BothWays (a ≤ b)
 is-at-most a b = record { yes = at-most a b; no = through (λ l h. omega arith) (less b a) }
 
-abbrev pub is-equal : (a b : ℕ) → Decided (a ≡ b)
+abbrev pub is-equal : (a b : ℕ) → BothWays (a ≡ b)
 is-equal a b = record { yes = equal a b; no = differ a b }
 
-abbrev pub is-not : {P : Type 0} → Decided P → Decided (P → ⊥)
+abbrev pub is-not : {P : Type 0} → BothWays P → BothWays (P → ⊥)
 is-not d = record { yes = d .no; no = through (λ p n. n p) (d .yes) }
 
-abbrev pub is-both : {P Q : Type 0} → Decided P → Decided Q → Decided (P × Q)
+abbrev pub is-both : {P Q : Type 0} → BothWays P → BothWays Q → BothWays (P × Q)
 is-both d e =
     record {
       yes = both (d .yes) (e .yes);
       no = through (⊎-elim (λ n p. n (p .0)) (λ n p. n (p .1))) (either (d .no) (e .no));
     }
 
-abbrev pub is-either : {P Q : Type 0} → Decided P → Decided Q → Decided (P ⊎ Q)
+abbrev pub is-either : {P Q : Type 0} → BothWays P → BothWays Q → BothWays (P ⊎ Q)
 is-either d e =
     record { yes = either (d .yes) (e .yes); no = through (λ n. ⊎-elim (n .0) (n .1)) (both (d .no) (e .no)) }
 
