@@ -18,7 +18,7 @@ pub enum Turn {
 }
 
 // Judges a call that answered `got`, with the system's error number, after `retries` interrupted calls in a row.
-pub fn judge(got: isize, error: i32, retries: u16) -> Turn
+pub(crate) fn judge(got: isize, error: i32, retries: u16) -> Turn
     ensures { λ turn. ⌜ Follows error retries got turn ⌝ }
 {
     if got > 0 {

@@ -21,7 +21,7 @@ pub enum Reading {
 }
 
 // Reads until the input ends or `file` is full. Nothing else ends an input.
-pub fn read_whole(file: &mut [u8]) -> Input
+pub(crate) fn read_whole(file: &mut [u8]) -> Input
     ensures { λ input. ⌜ Holds (now (file .exit)) input ⌝ }
 {
     let mut at: usize = 0;

@@ -15,7 +15,7 @@ pub enum Writing {
 }
 
 // Writes all of `text` and answers true, or stops at the first write that fails or takes nothing and answers false.
-pub fn write_whole(target: i32, text: &[u8]) -> bool {
+pub(crate) fn write_whole(target: i32, text: &[u8]) -> bool {
     let mut at: usize = 0;
     while at < text.len() {
         match advance(at, write_some(target, &text[at..])) {
