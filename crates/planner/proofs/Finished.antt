@@ -13,111 +13,147 @@ use Rattle.day.specs.Numbering.{Numbering}
 use Rattle.day.specs.Answer.{says, done, no-plan}
 use Rattle.day.specs.Refusal.{goes-on}
 use Rattle.day.specs.Check.{most-slots, Accepted}
+use Rattle.day.specs.Far.{far-price}
 use Rattle.day.specs.Zero.{zeroed}
 use Rattle.day.proofs.Cases.{give, on-le}
 use Rattle.day.proofs.Bound.{cost-at-most-slots}
 use Rattle.day.proofs.Check.{good-rows-deadlines}
-use Rattle.day.proofs.Zero.{zeroed-length, zeroed-below, zeroed-beyond}
-use Rattle.rule.specs.Span.{Problem}
-use Rattle.rule.specs.Whole.{problem, whole, whole-back, without-ends, ByNumber, Ready}
 use Rattle.day.proofs.Number.{numbered-apart}
-use Rattle.rule.proofs.Value.{Agree, value-agree, read-back-agree}
-use Rattle.rule.proofs.Whole.{whole-none, whole-best, whole-cost}
-use Rattle.planner.specs.Table.{place, need}
-use Rattle.planner.specs.Written.{Written, itself}
-use Rattle.planner.specs.Jobs.{none, jobs, by-number, Lowest, Prepared}
-use Rattle.planner.specs.Level.{Filled}
-use Rattle.planner.specs.ReadBack.{Readable, ReadBack}
-use Rattle.planner.specs.Finished.{Laid, whole-value, whole-plan, Finished}
+use Rattle.day.proofs.Zero.{zeroed-length, zeroed-below, zeroed-beyond}
+use Rattle.rule.specs.Span.{Problem, read-back}
+use Rattle.rule.specs.Whole.{problem, whole-back, ByNumber, Ready}
+use Rattle.rule.proofs.Whole.{whole-none, whole-best, whole-cost, back-in-day}
+use Rattle.engine.specs.Places.{Span, place, need as places}
+use Rattle.engine.specs.Written.{Written, Rows, itself}
+use Rattle.engine.specs.Lent.{Lent, layout-of}
+use Rattle.engine.specs.Filled.{Small, Filled}
+use Rattle.engine.specs.ReadBack.{Readable, Holds, ReadBack}
+use Rattle.engine.proofs.Places.{place-below, need-more}
+use Rattle.planner.specs.Table.{need}
+use Rattle.planner.specs.Jobs.{none, by-number, slots-of, Prepared, ProblemOf, Given, Asks}
+use Rattle.planner.specs.Finished.{Tabled, Laid, whole-value, Finished}
 use Rattle.planner.specs.Promise.{costs, none-proper, Planned, Never}
+use Rattle.planner.proofs.Table.{need-square}
+use Rattle.planner.proofs.Jobs.{far-price-bounded}
 use Rattle.planner.proofs.Promise.{never-clear}
 
--- a list that the checks accept is one for the rule
-pub ready-of : (day : Day) (w : Windows) (row : ℕ → ℕ) → Accepted day w → Numbered (w .count)
-    (w .deadline) row → Ready day w row none
-ready-of day w row accepted numbered = record {
-  numbered = numbered;
-  window = accepted .rows .window;
-  in-day = accepted .rows .in-day;
-  above = λ p P. omega (arith, cost-at-most-slots day (w .count) p, accepted .slots, accepted .wake);
-}
+-- n jobs, lent to the engine
+module _ {day : Day} {G : Lent} {n : ℕ} (given : Given day G n) (old : List ℕ) (long : need (day .slots) n ≤ length old) where
+  -- the engine has room
+  pub room : need (day .slots) n ≡ places (layout-of G) n
+  room = sym (need-square (layout-of G) (day .slots) n (given .level))
 
--- what is set to zero doesn't matter
-pub filled-zeroed : (P : Problem) (slots k : ℕ) (old new : List ℕ) → Filled P slots k old new
-    → zeroed (need slots k) new ≡ zeroed (need slots k) old
-filled-zeroed P slots k old new f =
-    ext-getD 0 (zeroed (need slots k) new) (zeroed (need slots k) old)
-    (zeroed-length (need slots k) new ∙ f .long ∙ sym (zeroed-length (need slots k) old))
-    (λ i h.
-    on-le (need slots k) i
-    (λ l. zeroed-beyond (need slots k) new i l ∙ f .beyond i l ∙ sym (zeroed-beyond (need slots k) old i l))
-    (λ l. zeroed-below (need slots k) new i l ∙ sym (zeroed-below (need slots k) old i l)))
+  pub room-for-prices : places (layout-of G) 0 ≤ length old
+  room-for-prices = omega (arith, room, need-more (layout-of G) 0 n (omega arith))
 
--- the whole day in a filled table: the code has its end as e
-module _ (day : Day) (rel dead : List ℕ) (n e : ℕ) (end : e ≡ day .slots + 2) (old new : List ℕ)
-    (f : Filled (jobs day rel dead) (day .slots) n old new) where
-  pub whole-read : (v : ℕ) → v ≡ at new (place (day .slots) n 0 e) → v ≡ whole-value day rel dead n
-  whole-read v q = q ∙ rw end (f .levels n (omega arith) 0 (day .slots + 2) (omega arith, omega arith))
+  -- once the level of no jobs has its prices
+  module _ (priced : List ℕ) (r : Rows (layout-of G) 0 0 (G .shape .points) (far-price day) old priced) where
+    pub priced-small : Small G 0 priced
+    priced-small s e v =
+        omega (
+          arith,
+          given .none,
+          r .inside s e (omega arith) (omega arith) v,
+          far-price-bounded day (omega (arith, given .jobs .wake)) s e,
+        )
 
-  pub whole-readable : (lowest : List ℕ) → Prepared day rel dead lowest n → need (day .slots) n ≤ length old
-      → whole-value day rel dead n < none → Readable day rel dead lowest new n 0 e
-  whole-readable lowest p long some = record {
-    prepared = p;
-    long = omega (arith, f .long);
-    levels = f .levels;
-    span = (omega arith, omega arith);
-    some = rw end some;
-  }
-
-  pub whole-cleared : (m : ℕ) (t : List ℕ) → m ≡ need (day .slots) n → t ≡ zeroed m new → t ≡ zeroed (need (day .slots) n) old
-  whole-cleared m t q c = c ∙ rw q (filled-zeroed (jobs day rel dead) (day .slots) n old new f)
-
--- what is read back of the whole day by number is laid out by row
-pub laid-of : (day : Day) (rel dead lowest order unread numbered starts p : List ℕ) (n e : ℕ) → e ≡ day .slots + 2
-    → Prepared day rel dead lowest n → ReadBack (jobs day rel dead) n 0 e unread numbered
-    → Written (at order) 0 n (at numbered) starts p → Laid order n (whole-plan day rel dead n) starts p
-laid-of day rel dead lowest order unread numbered starts p n e end prepared back w =
-    let whole : ReadBack (jobs day rel dead) n 0 (day .slots + 2) unread numbered = rw end at back in
-    record {
-      long = w .long;
-      by-number = λ k h.
-          omega (
+    pub tabled : (new : List ℕ) → Filled G n priced new → Tabled day G n old new
+    tabled new f = record {
+      long = f .long ∙ r .long;
+      small = f .small;
+      values = λ P a. f .values P (a .posed)
+          (λ s e v. r .inside s e (omega arith) (omega arith) v ∙ sym (a .price s e));
+      beyond = λ j h.
+          f .beyond j (omega (arith, room))
+          ∙ r .outside j (λ s e b l v q. omega (
             arith,
-            w .inside k (omega arith) h,
-            whole .read k (h, omega arith, omega (arith, prepared .window k h, prepared .in-day k h)),
-          );
-      others = λ j m. w .outside j (λ k l h. m k h);
+            room,
+            place-below (given .lendable .fits) n 0 s e (omega arith) v,
+          ));
     }
 
+  -- once the table is filled
+  module _ (new : List ℕ) (t : Tabled day G n old new) where
+    abbrev end : ℕ
+    end = day .slots + 2
+
+    pub whole-span : Span (layout-of G) 0 end
+    whole-span = (omega arith, omega (arith, given .points))
+
+    pub whole-there : place (layout-of G) n 0 end < length new
+    whole-there = omega (arith, t .long, room, place-below (given .lendable .fits) n n 0 end (omega arith) whole-span)
+
+    pub table-readable : Readable G new n
+    table-readable = record { prepared = given .lendable; room = omega (arith, t .long, room); small = t .small }
+
+    -- what is set to zero doesn't matter
+    pub table-cleared : (m : ℕ) (cleared : List ℕ) → m ≡ need (day .slots) n → cleared ≡ zeroed m new
+        → cleared ≡ zeroed (need (day .slots) n) old
+    table-cleared m cleared q c =
+        c
+        ∙ ext-getD 0 (zeroed m new) (zeroed m old) (zeroed-length m new ∙ t .long ∙ sym (zeroed-length m old))
+        (λ i h.
+        on-le m i (λ l. zeroed-beyond m new i l ∙ t .beyond i (omega arith) ∙ sym (zeroed-beyond m old i l))
+        (λ l. zeroed-below m new i l ∙ sym (zeroed-below m old i l)))
+        ∙ ap (λ (x : ℕ). zeroed x old) q
+
+    module _ (P : Problem) (a : Asks day G n P) where
+      pub whole-read : (v : ℕ) → v ≡ at new (place (layout-of G) n 0 end) → v ≡ whole-value day P n
+      whole-read v q = q ∙ t .values P a n (omega arith) 0 end whole-span
+
+      pub whole-holds : whole-value day P n < none → Holds P G new n 0 end
+      whole-holds h = record {
+        posed = a .posed;
+        levels = t .values P a;
+        span = whole-span;
+        some = omega (arith, a .posed .none, given .none);
+      }
+
+      -- what is read back of the whole day by number is laid out by row
+      pub laid-of : (order unread numbered starts p : List ℕ) → ReadBack P n 0 end unread numbered
+          → Written (at order) 0 n (slots-of numbered) starts p → Laid order n (read-back P n 0 end) starts p
+      laid-of order unread numbered starts p back w = record {
+        long = w .long;
+        slot = λ k h.
+            omega (
+              arith,
+              w .inside k (omega arith) h,
+              back .read k (
+                h,
+                omega arith,
+                omega (
+                  arith,
+                  a .posed .release k h,
+                  given .jobs .window k h,
+                  given .jobs .in-day k h,
+                ),
+              ),
+            );
+        others = λ j m. w .outside j (λ k l h. m k h);
+      }
+
 -- the table's value decides, and the plan read back is the best
-module _ (day : Day) (w : Windows) (order rel dead starts table : List ℕ) (R : Ready day w (at order) none)
-    (A : Agree (w .count) (jobs day rel dead) (problem day w (at order) none)) where
-  whole-same : whole-value day rel dead (w .count) ≡ whole day w (at order) none
-  whole-same =
-      value-agree (w .count) (jobs day rel dead) (problem day w (at order) none) A (w .count) 0 (day .slots + 2) (omega arith)
+module _ (day : Day) (w : Windows) (order starts table : List ℕ) (R : Ready day w (at order) none) where
+  abbrev P : Problem
+  P = problem day w (at order) none
 
-  -- the starts laid out by number are those of the whole day's plan
-  laid-back : (p : List ℕ) → Laid order (w .count) (whole-plan day rel dead (w .count)) starts p
+  -- the starts laid out by number are those of the whole day's plan: each is a slot of the day
+  laid-back : (p : List ℕ) → whole-value day P (w .count) < none
+      → Laid order (w .count) (whole-back day w (at order) none) starts p
       → ByNumber (w .count) (at order) (at p) (whole-back day w (at order) none)
-  laid-back p l k h =
-      l .by-number k h
-      ∙ read-back-agree (w .count) (jobs day rel dead) (problem day w (at order) none) A (w .count) 0 (day .slots + 2) k
-      (omega arith) h
+  laid-back p small l k h = omega (arith, l .slot k h, back-in-day day w (at order) none R small k h)
 
-  module _ (a : Answer) (p t : List ℕ) (F : Finished day rel dead order (w .count) starts table a p t) where
-    found-planned : whole-value day rel dead (w .count) < none → Planned Never
-        (need (day .slots) (w .count)) day w starts table a p t
-    found-planned h =
-        give (F .found h)
+  module _ (a : Answer) (p t : List ℕ) (F : Finished day P order (w .count) starts table a p t) where
+    found-planned : whole-value day P (w .count) < none → Planned Never (need (day .slots) (w .count)) day w starts table a p t
+    found-planned small =
+        give (F .found small)
         (λ f.
-        let small : whole day w (at order) none < none = omega (arith, whole-same) in
-        let back = laid-back p (f .1) in
+        let back = laid-back p small (f .1) in
         let best = whole-best day w (at order) none R small (at p) back in
         let code : a .code ≡ done = ap (λ (x : Answer). x .code) (f .0) in
         record {
           answer = goes-on never-clear (costs (at p) best
-              (f .0 ∙ ap (λ (v : ℕ). says done (without-ends day (w .count) v) 0) whole-same
-              ∙ ap (λ (v : ℕ). says done v 0) (sym (whole-cost day w (at order) none R small (at p) back))));
+              (f .0 ∙ ap (λ (v : ℕ). says done v 0) (sym (whole-cost day w (at order) none R small (at p) back))));
           planned = λ e. record {
             long = f .1 .long;
             best = best;
@@ -128,14 +164,13 @@ module _ (day : Day) (w : Windows) (order rel dead starts table : List ℕ) (R :
           kept = λ e g. absurd (e code);
         })
 
-    missing-planned : none ≤ whole-value day rel dead (w .count) → Planned Never
-        (need (day .slots) (w .count)) day w starts table a p t
+    missing-planned : none ≤ whole-value day P (w .count) → Planned Never (need (day .slots) (w .count)) day w starts table a p t
     missing-planned h =
         give (F .not-found h)
         (λ f.
         let code : a .code ≡ no-plan = ap (λ (x : Answer). x .code) (f .0) in
         record {
-          answer = goes-on never-clear (none-proper (whole-none day w (at order) none R (omega (arith, whole-same))) (f .0));
+          answer = goes-on never-clear (none-proper (whole-none day w (at order) none R h) (f .0));
           planned = λ e. absurd (omega arith);
           unplanned = λ e. f .1;
           cleared = λ e. F .cleared;
@@ -143,7 +178,16 @@ module _ (day : Day) (w : Windows) (order rel dead starts table : List ℕ) (R :
         })
 
     pub finished-planned : Planned Never (need (day .slots) (w .count)) day w starts table a p t
-    finished-planned = on-le none (whole-value day rel dead (w .count)) missing-planned found-planned
+    finished-planned = on-le none (whole-value day P (w .count)) missing-planned found-planned
+
+-- a list that the checks accept is one for the rule
+ready-of : (day : Day) (w : Windows) (row : ℕ → ℕ) → Accepted day w → Numbered (w .count) (w .deadline) row → Ready day w row none
+ready-of day w row accepted numbered = record {
+  numbered = numbered;
+  window = accepted .rows .window;
+  in-day = accepted .rows .in-day;
+  above = λ p P. omega (arith, cost-at-most-slots day (w .count) p, accepted .slots, accepted .wake);
+}
 
 pub numbered-new : (deadlines old new : List ℕ) → Numbering deadlines old new → Numbered (length new) (at deadlines) (at new)
 numbered-new deadlines old new N = rw (N .places) (N .numbered)
@@ -177,26 +221,13 @@ module _ (day : Day) (releases deadlines order : List ℕ) (accepted : Accepted 
   -- releases and deadlines are put into that order
   module _ (rel dead rel₀ dead₀ : List ℕ) (r : Written itself 0 n (by-number releases order) rel₀ rel)
       (d : Written itself 0 n (by-number deadlines order) dead₀ dead) where
-    agree-of : Agree n (jobs day rel dead) (problem day rows (at order) none)
-    agree-of = record {
-      price = λ s e. refl;
-      allowed = λ t. refl;
-      none = refl;
-      release = λ k h. r .inside k (omega arith) h;
-      deadline = λ k h. d .inside k (omega arith) h;
-    }
-
-    pub prepared-of :
-        (lowest : List ℕ) → n ≤ length rel₀ → n ≤ length dead₀ → day .slots + 3 ≤ length lowest → Lowest rel 0 n lowest
-        → Prepared day rel dead lowest n
-    prepared-of lowest a b long marks = record {
+    pub prepared-of : n ≤ length rel₀ → n ≤ length dead₀ → Prepared day rel dead n
+    prepared-of a b = record {
       slots = accepted .slots;
       wake = accepted .wake;
       few = omega (arith, accepted .rows .count);
       releases = omega (arith, r .long);
       deadlines = omega (arith, d .long);
-      points = long;
-      after-far = λ k h. omega (arith, r .inside k (omega arith) h);
       window = λ k h.
           omega (
             arith,
@@ -206,11 +237,21 @@ module _ (day : Day) (releases deadlines order : List ℕ) (accepted : Accepted 
                 (row-below-count k h),
           );
       in-day = λ k h. omega (arith, d .inside k (omega arith) h, accepted .rows .in-day (at order k) (row-below-count k h));
-      marks = marks;
     }
 
-    pub solved : (starts table p t : List ℕ) (a : Answer) → Finished day rel dead order n starts table a p t
+    -- they are the rule's problem of the day
+    problem-of : ProblemOf day rel dead n (problem day rows (at order) none)
+    problem-of = record {
+      price = λ s e. refl;
+      allowed = λ t. refl;
+      none = refl;
+      release = λ k h. sym (r .inside k (omega arith) h);
+      deadline = λ k h. sym (d .inside k (omega arith) h);
+    }
+
+    pub solved : (starts table p t : List ℕ) (a : Answer)
+        → ((P : Problem) → ProblemOf day rel dead n P → Finished day P order n starts table a p t)
         → Planned Never (need (day .slots) (length releases)) day rows starts table a p t
     solved starts table p t a F =
-        finished-planned day rows order rel dead starts table (ready-of day rows (at order) accepted (rw all at numbered))
-        (rw all at agree-of) a p t (rw all at F)
+        finished-planned day rows order starts table (ready-of day rows (at order) accepted (rw all at numbered)) a p t
+        (rw all at (F (problem day rows (at order) none) problem-of))

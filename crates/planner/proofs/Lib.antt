@@ -1,10 +1,5 @@
--- The laws of the table, of what the code leaves in it, and of the plan that is read back from it.
+-- The laws of the table's need, of the jobs in number order and of the planner's promise.
 pub mod Table
-pub mod Written
-pub mod Level
 pub mod Jobs
-pub mod Sums
-pub mod Split
-pub mod ReadBack
 pub mod Promise
 pub mod Finished

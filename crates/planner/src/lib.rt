@@ -1,24 +1,29 @@
 // The plan: checks, the cost table, read-back.
-mod back;
-mod fill;
 mod number;
-mod rows;
+mod out;
+mod price;
 
 ghost use mathlib.Core.Path.{_≡_};
-ghost use Prim.Native.Nat.{ℕ, _+_, _<_, _≤_};
+ghost use Prim.Native.Nat.{ℕ, _<_, _≤_};
 ghost use lib.ListN.{length};
 ghost use Rattle.day.specs.Windows.{at, windows};
 ghost use Rattle.day.specs.Check.{most-wake, Accepted};
 ghost use Rattle.day.specs.Refusal.{_then_, Passed};
+ghost use Rattle.rule.specs.Span.{Problem};
 ghost use Rattle.rule.specs.Whole.{without-ends};
+ghost use Rattle.engine.specs.Lent.{lent};
 ghost use Rattle.planner.specs.Table.{need};
-ghost use Rattle.planner.specs.Jobs.{Prepared};
-ghost use Rattle.planner.specs.Finished.{Finished};
+ghost use Rattle.planner.specs.Jobs.{Prepared, ProblemOf, Given, Asks};
+ghost use Rattle.planner.specs.Finished.{Tabled, Finished};
 ghost use Rattle.planner.specs.Promise.{Never, Planned, PlanCheck, PlanPromise};
 use day::Answer;
 use day::Day;
 use day::code;
 use day::wide;
+use engine::Shape;
+
+// Stands for "none": more than a plan can cost, and the sum of two still has 15 bits.
+const NONE: u16 = 16000;
 
 // What the whole day costs by its value: the two wakes at the far ends come off, save with no jobs.
 fn without_ends(day: Day, count: usize, value: u16) -> u16
@@ -35,44 +40,76 @@ fn without_ends(day: Day, count: usize, value: u16) -> u16
     value - ends
 }
 
-// Plans jobs that are in number order: fills the table, reads the plan back if there is one, and sets the table to zero.
-fn finish(
+// How many places `count` jobs need.
+fn need_of(slots: u16, count: usize) -> usize
+    requires { ⌜ count < 65536 ⌝ }
+    ensures { λ r. ⌜ r ≡ need slots count ⌝ }
+{
+    let width = wide(slots) + 3;
+    (count + 1) * width * width
+}
+
+// Fills the table for `count` jobs that are in number order.
+fn fill_table(
     day: Day,
+    shape: Shape,
+    begins: &[usize],
     rel: &[u16],
     dead: &[u16],
-    lowest: &[u16],
+    marks: &[u16],
+    count: usize,
+    table: &mut [u16],
+)
+    requires { ⌜ Given day (lent shape (now begins) (now rel) (now dead) (now marks)) count ⌝ }
+    requires { ⌜ need (day .slots) count ≤ length (now table) ⌝ }
+    ensures { λ _. ⌜ Tabled day (lent shape (now (begins .entry)) (now (rel .entry)) (now (dead .entry)) (now (marks .entry))) count (now (table .entry)) (now (table .exit)) ⌝ }
+{
+    price::price_level(day, shape, begins, &mut *table);
+    let mut sums = [0u16; 99];
+    engine::fill::fill(shape, begins, rel, dead, marks, count, table, &mut sums);
+}
+
+// Fills the table, reads the plan back if there is one, and sets the table to zero.
+fn finish(
+    day: Day,
+    shape: Shape,
+    begins: &[usize],
+    rel: &[u16],
+    dead: &[u16],
+    marks: &[u16],
     order: &[usize],
     starts: &mut [u16],
     table: &mut [u16],
 ) -> Answer
-    requires { ⌜ Prepared day (now rel) (now dead) (now lowest) (length (now order)) ⌝ }
+    requires { ⌜ Given day (lent shape (now begins) (now rel) (now dead) (now marks)) (length (now order)) ⌝ }
     requires { ⌜ need (day .slots) (length (now order)) ≤ length (now table) ⌝ }
     requires { ⌜ ((k : ℕ) → k < length (now order) → at (now order) k < length (now starts)) ⌝ }
     requires { ⌜ ((k l : ℕ) → k < l → l < length (now order) → at (now order) k ≡ at (now order) l → ⊥) ⌝ }
-    ensures { λ a. ⌜ Finished day (now (rel .entry)) (now (dead .entry)) (now (order .entry)) (length (now (order .entry))) (now (starts .entry)) (now (table .entry)) a (now (starts .exit)) (now (table .exit)) ⌝ }
+    ensures { λ a. ⌜ ((P : Problem) → Asks day (lent shape (now (begins .entry)) (now (rel .entry)) (now (dead .entry)) (now (marks .entry))) (length (now (order .entry))) P → Finished day P (now (order .entry)) (length (now (order .entry))) (now (starts .entry)) (now (table .entry)) a (now (starts .exit)) (now (table .exit))) ⌝ }
 {
     let count = order.len();
     let end = wide(day.slots) + 2;
-    let needed = rows::need_of(day.slots, count);
-    fill::fill(day, rel, dead, lowest, count, &mut *table);
-    let value = rows::value_at(&*table, day.slots, count, 0, end);
-    if value >= fill::NONE {
+    let needed = need_of(day.slots, count);
+    fill_table(day, shape, begins, rel, dead, marks, count, &mut *table);
+    let value = engine::rows::value_at(&*table, shape, begins, count, 0, end);
+    if value >= NONE {
         day::zero_first(table, needed);
         return Answer::of(code::NO_PLAN);
     }
     let mut numbered = [0u16; 40];
-    back::read_back(
+    engine::back::read_back(
         count,
         0,
         end,
-        day,
+        shape,
+        begins,
         rel,
         dead,
-        lowest,
+        marks,
         &*table,
         &mut numbered,
     );
-    back::write_out(starts, order, &numbered);
+    out::write_out(starts, order, &numbered);
     day::zero_first(table, needed);
     let cost = without_ends(day, count, value);
     Answer {
@@ -80,6 +117,30 @@ fn finish(
         first: cost,
         second: 0,
     }
+}
+
+// Plans jobs that are in number order: lays the table out as a square of the day's points, in which a job may start at every slot.
+fn plan_numbered(
+    day: Day,
+    rel: &[u16],
+    dead: &[u16],
+    order: &[usize],
+    starts: &mut [u16],
+    table: &mut [u16],
+) -> Answer
+    requires { ⌜ Prepared day (now rel) (now dead) (length (now order)) ⌝ }
+    requires { ⌜ need (day .slots) (length (now order)) ≤ length (now table) ⌝ }
+    requires { ⌜ ((k : ℕ) → k < length (now order) → at (now order) k < length (now starts)) ⌝ }
+    requires { ⌜ ((k l : ℕ) → k < l → l < length (now order) → at (now order) k ≡ at (now order) l → ⊥) ⌝ }
+    ensures { λ a. ⌜ ((P : Problem) → ProblemOf day (now (rel .entry)) (now (dead .entry)) (length (now (order .entry))) P → Finished day P (now (order .entry)) (length (now (order .entry))) (now (starts .entry)) (now (table .entry)) a (now (starts .exit)) (now (table .exit))) ⌝ }
+{
+    let mut marks = [day::MOST_JOBS; 99];
+    engine::mark::mark_releases(rel, order.len(), &mut marks);
+    let points = wide(day.slots) + 3;
+    let mut begins = [0usize; 99];
+    engine::square::begin_rows(points, &mut begins);
+    let shape = engine::square::shape_of(points, NONE);
+    finish(day, shape, &begins, rel, dead, &marks, order, starts, table)
 }
 
 // Plans a list that the checks accept; `order` has a place for each row.
@@ -101,9 +162,7 @@ fn solve(
     number::by_number(releases, &*order, &mut rel);
     let mut dead = [0u16; 40];
     number::by_number(deadlines, &*order, &mut dead);
-    let mut lowest = [day::MOST_JOBS; 99];
-    number::mark_lowest(&rel, releases.len(), &mut lowest);
-    finish(day, &rel, &dead, &lowest, &*order, starts, table)
+    plan_numbered(day, &rel, &dead, &*order, starts, table)
 }
 
 // Codes 1 to 6.
@@ -121,7 +180,7 @@ fn check_plan(
         return checked;
     }
     let count = releases.len();
-    let needed = rows::need_of(day.slots, count);
+    let needed = need_of(day.slots, count);
     if starts.len() < count {
         return Answer::of(code::FEW_STARTS);
     }

@@ -2,6 +2,7 @@
 -- plan read back is the latest of the cheapest). Printed shows the source's formula wrong. Whole is the theorem on a whole day.
 pub mod Extreme
 pub mod Value
+pub mod Alike
 pub mod Occupied
 pub mod Cut
 pub mod Swap

@@ -1,6 +1,6 @@
 -- The laws of the recursion and of the plan read back, one for each clause, and what they depend on. Assumes nothing.
 use Prim.Native.Nat.{ℕ, zero, suc, _+_, _≤_, _<_}
-use mathlib.Core.Path.{_≡_, refl, sym, _∙_, ap}
+use mathlib.Core.Path.{_≡_, refl}
 use mathlib.Core.Bool.{true, false, _&&_}
 use native.Mathlib.Omega.{arith}
 use lib.Dec.{ltb, leb, eqb}
@@ -8,7 +8,7 @@ use borrow.Author.Tests.{ltb-true, leb-true, eqb-true, eqb-false, lt-ltb, le-ltb
 use Rattle.day.proofs.Cases.{on, on-eq, give, not-both, and-left, and-right, and-intro}
 use Rattle.rule.specs.Extreme.{least, latest}
 use Rattle.rule.specs.Span.{Problem, in-span, clear, may-split, value-by, value, sides, best-split, split, read-back}
-use Rattle.rule.proofs.Extreme.{least-le, least-none-bound, least-found, least-cong, Latest, latest-is, latest-cong}
+use Rattle.rule.proofs.Extreme.{least-le, least-found, Latest, latest-is, latest-below}
 
 -- job k is released at s or later and before e
 abbrev pub In : Problem → ℕ → ℕ → ℕ → Type 0
@@ -77,6 +77,9 @@ unfolding may-split
 may-split-intro P k t m =
     rw (m .allowed, le-leb (P .release k) t (m .low), lt-ltb t (P .deadline k) (m .high)) (clear-intro P k t (m .clear))
 
+pub may-split-false : (P : Problem) (k t : ℕ) → (MaySplit P k t → ⊥) → may-split P k t ≡ false
+may-split-false P k t n = on (may-split P k t) (λ h. absurd (n (may-split-true P k t h))) (λ h. h)
+
 pub value-zero : (P : Problem) (s e : ℕ) → value P 0 s e ≡ P .price s e
 unfolding value value-by
 value-zero P s e = refl
@@ -98,17 +101,12 @@ pub value-le-sides : (P : Problem) (k s e t : ℕ) → In P s e k → MaySplit P
 value-le-sides P k s e t h m l =
     omega (arith, value-in P k s e h, least-le (may-split P k) (sides P k s e) (P .none) e t l (may-split-intro P k t m))
 
--- every value is at most `none`
-pub value-bounded : (P : Problem) → ((s e : ℕ) → P .price s e ≤ P .none) → (k s e : ℕ) → value P k s e ≤ P .none
-value-bounded P p zero s e = omega (arith, value-zero P s e, p s e)
-value-bounded P p (suc k) s e =
-    on-in-span P s e k
-    (λ h. omega (arith, value-in P k s e h, least-none-bound (may-split P k) (sides P k s e) (P .none) e))
-    (λ n. omega (arith, value-out P k s e n, value-bounded P p k s e))
-
 pub split-is : (P : Problem) (k s e : ℕ) → split P k s e ≡ latest (best-split P k s e) e
 unfolding split
 split-is P k s e = refl
+
+pub split-below : (P : Problem) (k s e : ℕ) → split P k s e ≤ e
+split-below P k s e = omega (arith, split-is P k s e, latest-below (best-split P k s e) e)
 
 pub best-split-is : (P : Problem) (k s e t : ℕ)
     → best-split P k s e t ≡ (may-split P k t && eqb (sides P k s e t) (value P (suc k) s e))
@@ -167,77 +165,3 @@ pub read-back-right : (P : Problem) (k s e i : ℕ) → In P s e k → i < k →
 unfolding read-back
 read-back-right P k s e i h l c =
     rw (in-span-intro P s e k h, ne-eqb i k (omega arith), le-ltb (P .release i) (split P k s e) c)
-
--- two problems that agree in all but the windows of the jobs from n on
-pub record Agree (n : ℕ) (P Q : Problem) : Type 0 where
-  pub price : (s e : ℕ) → P .price s e ≡ Q .price s e
-  pub allowed : (t : ℕ) → P .allowed t ≡ Q .allowed t
-  pub none : P .none ≡ Q .none
-  pub release : (i : ℕ) → i < n → P .release i ≡ Q .release i
-  pub deadline : (i : ℕ) → i < n → P .deadline i ≡ Q .deadline i
-
-in-span-agree : (n : ℕ) (P Q : Problem) → Agree n P Q → (s e k : ℕ) → k < n → in-span P s e k ≡ in-span Q s e k
-unfolding in-span
-in-span-agree n P Q A s e k l = rw (A .release k l)
-
-clear-agree : (n : ℕ) (P Q : Problem) → Agree n P Q → (k t : ℕ) → k ≤ n → clear P k t ≡ clear Q k t
-unfolding clear
-clear-agree n P Q A zero t l = refl
-clear-agree n P Q A (suc k) t l = rw (A .release k l, clear-agree n P Q A k t (omega arith))
-
-may-split-agree : (n : ℕ) (P Q : Problem) → Agree n P Q → (k t : ℕ) → k < n → may-split P k t ≡ may-split Q k t
-unfolding may-split
-may-split-agree n P Q A k t l = rw (A .allowed t, A .release k l, A .deadline k l, clear-agree n P Q A k t (omega arith))
-
--- they have the same values for the lowest n jobs
-pub value-agree : (n : ℕ) (P Q : Problem) → Agree n P Q → (k s e : ℕ) → k ≤ n → value P k s e ≡ value Q k s e
-value-agree n P Q A zero s e l = value-zero P s e ∙ A .price s e ∙ sym (value-zero Q s e)
-value-agree n P Q A (suc k) s e l =
-    give (in-span-agree n P Q A s e k l)
-    (λ i.
-    on-in-span P s e k
-    (λ h.
-    value-in P k s e h
-    ∙ least-cong (may-split P k) (may-split Q k) (sides P k s e) (sides Q k s e) (P .none) e
-    (λ t u. may-split-agree n P Q A k t l)
-    (λ t u p.
-    omega (
-      arith,
-      sides-is P k s e t,
-      sides-is Q k s e t,
-      value-agree n P Q A k s t (omega arith),
-      value-agree n P Q A k (suc t) e (omega arith),
-    ))
-    ∙ ap (λ none. least (may-split Q k) (sides Q k s e) none e) (A .none)
-    ∙ sym (value-in Q k s e (in-span-true Q s e k (sym i ∙ in-span-intro P s e k h))))
-    (λ o.
-    value-out P k s e o
-    ∙ value-agree n P Q A k s e (omega arith)
-    ∙ sym (value-out Q k s e (λ h. o (in-span-true P s e k (i ∙ in-span-intro Q s e k h))))))
-
-split-agree : (n : ℕ) (P Q : Problem) → Agree n P Q → (k s e : ℕ) → k < n → split P k s e ≡ split Q k s e
-unfolding split best-split sides
-split-agree n P Q A k s e l =
-    latest-cong (best-split P k s e) (best-split Q k s e) e
-    (λ t u.
-    rw (
-      may-split-agree n P Q A k t l,
-      value-agree n P Q A k s t (omega arith),
-      value-agree n P Q A k (suc t) e (omega arith),
-      value-agree n P Q A (suc k) s e l,
-    ))
-
--- and the same plan read back
-pub read-back-agree : (n : ℕ) (P Q : Problem) → Agree n P Q → (k s e i : ℕ) → k ≤ n → i < n
-    → read-back P k s e i ≡ read-back Q k s e i
-unfolding read-back
-read-back-agree n P Q A zero s e i l u = refl
-read-back-agree n P Q A (suc k) s e i l u =
-    rw (
-      in-span-agree n P Q A s e k l,
-      split-agree n P Q A k s e l,
-      A .release i u,
-      read-back-agree n P Q A k s (split Q k s e) i (omega arith) u,
-      read-back-agree n P Q A k (suc (split Q k s e)) e i (omega arith) u,
-      read-back-agree n P Q A k s e i (omega arith) u,
-    )

@@ -63,7 +63,7 @@ module _ (day : Day) (w : Windows) (row : ℕ → ℕ) (none : ℕ) (R : Ready d
         (omega arith) h
 
     -- every start read back is a slot of the day, counted from 1
-    back-in-day : (k : ℕ) → k < w .count
+    pub back-in-day : (k : ℕ) → k < w .count
         → (1 ≤ whole-back day w row none k) × (whole-back day w row none k ≤ day .slots)
     back-in-day k l =
         omega (

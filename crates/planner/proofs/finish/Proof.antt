@@ -1,32 +1,22 @@
 -- `planner::finish` meets its contract: the value of the whole day decides. Assumes nothing.
 use Prim.Native.Nat.{ℕ, _+_}
 use mathlib.Core.Path.{_≡_, refl, ap, _∙_}
+use mathlib.Core.List.{List}
 use native.Mathlib.Omega.{arith}
 use lib.ListN.{length}
 use denote.Ref.{now}
 use Rattle.day.specs.Answer.{says, done}
+use Rattle.day.specs.Zero.{zeroed}
+use Rattle.rule.specs.Span.{Problem}
 use Rattle.rule.specs.Whole.{without-ends}
+use Rattle.engine.specs.Lent.{Lent, lent}
+use Rattle.planner.specs.Table.{need}
+use Rattle.planner.specs.Jobs.{Asks}
+use Rattle.planner.specs.Finished.{Tabled, whole-value}
+use Rattle.planner.proofs.Finished.{whole-there, table-readable, table-cleared, whole-read, whole-holds, laid-of}
 use borrow.Author.Needs.{needs}
-use Rattle.planner.specs.Finished.{whole-value}
-use Rattle.planner.proofs.Finished.{whole-read, whole-readable, whole-cleared, laid-of}
 use Rattle.planner.proofs.finish.Statement.{statement}
 use Rattle.planner.proofs.finish.Tie as tie
-
--- once the whole day's value is read
-module _ (c : tie.After-value-at) where
-  abbrev start : tie.Start
-  start = c .before .before .before .before .before .before .before .before .before .before .before .before .before .before
-
-  abbrev n : ℕ
-  n = length (now (start .args .order))
-
-  end : c .before .before .before .before .before .before .before .wide .result + 2 ≡ start .args .day .slots + 2
-  end = omega (arith, c .before .before .before .before .before .before .before .wide .ensures)
-
-  value-read : c .value-at .result ≡ whole-value (start .args .day) (now (start .args .rel)) (now (start .args .dead)) n
-  value-read =
-      whole-read (start .args .day) (now (start .args .rel)) (now (start .args .dead)) n _ end (now (start .args .table)) _
-      (c .before .before .before .before .fill .ensures) (c .value-at .result) (c .value-at .ensures)
 
 wide-requires : tie.Need-wide-requires
 wide-requires c κs = search needs
@@ -37,11 +27,50 @@ add-end c = search needs
 need-of-requires : tie.Need-need-of-requires
 need-of-requires c κs = search needs
 
-fill-requires : tie.Need-fill-requires
-fill-requires c κs = search needs
+fill-table-requires : tie.Need-fill-table-requires
+fill-table-requires c κs = search needs
+
+-- once the table is filled
+module _ (c : tie.After-fill-table) where
+  abbrev start : tie.Start
+  start = c .before .before .before .before .before .before .before .before .before .before .before
+
+  abbrev given : Lent
+  given =
+      lent (start .args .shape) (now (start .args .begins)) (now (start .args .rel)) (now (start .args .dead)) (now (start .args .marks))
+
+  abbrev n : ℕ
+  n = length (now (start .args .order))
+
+  end : c .before .before .before .wide .result + 2 ≡ start .args .day .slots + 2
+  end = omega (arith, c .before .before .before .wide .ensures)
+
+  abbrev filled-table : List ℕ
+  filled-table = c .fill-table .last .1 .1 .1 .1 .1 .1 .1 .0
+
+  filled : Tabled (start .args .day) given n (now (start .args .table)) filled-table
+  filled = c .fill-table .ensures
 
 value-at-requires : tie.Need-value-at-requires
-value-at-requires c κs = search needs
+value-at-requires c κs =
+    let f = c .before .before .before in (
+      omega (arith, start f .pre .0 .points, start f .pre .0 .lendable .rows),
+      rw (end f) (whole-there (start f .pre .0) (now (start f .args .table)) (start f .pre .1 .0) (filled-table f) (filled f)),
+    )
+
+-- once the value of the whole day is read
+module _ (c : tie.After-value-at) where
+  abbrev f : tie.After-fill-table
+  f = c .before .before .before .before
+
+  value-read : (P : Problem) → Asks (start f .args .day) (given f) (n f) P → c .value-at .result ≡ whole-value (start f .args .day) P (n f)
+  value-read P a =
+      whole-read (start f .pre .0) (now (start f .args .table)) (start f .pre .1 .0) _ (filled f) P a _ (rw (end f) at (c .value-at .ensures))
+
+  cleared : (t : List ℕ) → t ≡ zeroed (c .before .before .before .before .before .before .need-of .result) (filled-table f)
+      → t ≡ zeroed (need (start f .args .day .slots) (n f)) (now (start f .args .table))
+  cleared t =
+      table-cleared (start f .pre .0) (now (start f .args .table)) (start f .pre .1 .0) _ (filled f) _ t (c .before .before .before .before .before .before .need-of .ensures)
 
 zero-first-requires : tie.Need-zero-first-requires
 zero-first-requires c κs = search needs
@@ -55,13 +84,10 @@ same-length c = search needs
 returns : tie.Need-returns
 returns c =
     let v = c .before .before .before .before .before .before in
-    let a = start v .args in
-    record {
-      found = λ h. absurd (omega (arith, value-read v));
+    λ P a. record {
+      found = λ h. absurd (omega (arith, value-read v P a, c .before .before .before .before .before .if1 .taken));
       not-found = λ h. (c .of .ensures, refl);
-      cleared = whole-cleared (a .day) (now (a .rel)) (now (a .dead)) (n v) _ (end v) (now (a .table)) _
-          (v .before .before .before .before .fill .ensures) _ _ (v .before .before .before .before .before .before .need-of .ensures)
-          (c .before .before .before .zero-first .ensures);
+      cleared = cleared v _ (c .before .before .before .zero-first .ensures);
     }
 
 slice-aggregate-read-back : tie.Need-slice-aggregate-read-back
@@ -69,25 +95,27 @@ slice-aggregate-read-back c = search needs
 
 read-back-requires : tie.Need-read-back-requires
 read-back-requires c κs =
-    let v = c .before .before .before in
-    let a = start v .args in (
-      whole-readable (a .day) (now (a .rel)) (now (a .dead)) (n v) _ (end v) (now (a .table)) _
-          (v .before .before .before .before .fill .ensures) (now (a .lowest)) (start v .pre .0) (start v .pre .1 .0)
-          (omega (arith, value-read v)),
-      omega (arith, start v .pre .0 .few),
+    let f = c .before .before .before .before .before .before .before in (
+      table-readable (start f .pre .0) (now (start f .args .table)) (start f .pre .1 .0) _ (filled f),
+      (
+        omega (arith, end f, start f .pre .0 .points),
+        omega (arith, start f .pre .0 .jobs .few),
+      ),
     )
 
 slice-aggregate-write-out : tie.Need-slice-aggregate-write-out
 slice-aggregate-write-out c = search needs
 
 write-out-requires : tie.Need-write-out-requires
-write-out-requires c κs = search needs
+write-out-requires c κs =
+    let s = start (c .before .before .before .before .before .before .before .before .before .before .before) in
+    (omega (arith, s .pre .0 .jobs .few, c .before .before .before .read-back .ensures .0), (s .pre .1 .1 .0, s .pre .1 .1 .1))
 
 zero-first-requires-2 : tie.Need-zero-first-requires-2
 zero-first-requires-2 c κs = search needs
 
 without-ends-requires : tie.Need-without-ends-requires
-without-ends-requires c κs = start (c .before .before .before .before .before .before .before .before .before .before .before .before .before .before) .pre .0 .wake
+without-ends-requires c κs = start (c .before .before .before .before .before .before .before .before .before .before .before .before .before .before .before .before .before .before) .pre .0 .jobs .wake
 
 same-length-2 : tie.Need-same-length-2
 same-length-2 c = search needs
@@ -98,17 +126,18 @@ same-length-3 c = search needs
 returns-2 : tie.Need-returns-2
 returns-2 c =
     let v = c .before .before .before .before .before .before .before .before .before .before .before .before .before .before .before in
-    let a = start v .args in
-    record {
+    let f = c .before .before .before .before .before .before .before .before .before .before .before .before .before .before .before .before .before .before .before in
+    let s = start f in
+    λ P a. record {
       found = λ h. (
-        ap (λ (x : ℕ). says done x 0) (c .without-ends .ensures ∙ ap (without-ends (a .day) (n v)) (value-read v)),
-        laid-of (a .day) (now (a .rel)) (now (a .dead)) (now (a .lowest)) (now (a .order)) _ _ (now (a .starts)) _ (n v) _ (end v)
-            (start v .pre .0) (c .before .before .before .before .before .before .before .before .before .before .before .read-back .ensures) (c .before .before .before .before .before .before .before .write-out .ensures),
+        ap (λ (x : ℕ). says done x 0) (c .without-ends .ensures ∙ ap (without-ends (s .args .day) (n f)) (value-read v P a)),
+        laid-of (s .pre .0) (now (s .args .table)) (s .pre .1 .0) _ (filled f) P a (now (s .args .order)) _ _ (now (s .args .starts)) _
+            (rw (end f) at (c .before .before .before .before .before .before .before .before .before .before .before .read-back .ensures .1 P
+            (rw (end f) (whole-holds (s .pre .0) (now (s .args .table)) (s .pre .1 .0) _ (filled f) P a h))))
+            (c .before .before .before .before .before .before .before .write-out .ensures),
       );
-      not-found = λ h. absurd (omega (arith, value-read v, c .before .before .before .before .before .before .before .before .before .before .before .before .before .before .if1 .left));
-      cleared = whole-cleared (a .day) (now (a .rel)) (now (a .dead)) (n v) _ (end v) (now (a .table)) _
-          (v .before .before .before .before .fill .ensures) _ _ (v .before .before .before .before .before .before .need-of .ensures)
-          (c .before .before .before .zero-first2 .ensures);
+      not-found = λ h. absurd (omega (arith, value-read v P a, c .before .before .before .before .before .before .before .before .before .before .before .before .before .before .if1 .left));
+      cleared = cleared v _ (c .before .before .before .zero-first2 .ensures);
     }
 
 pub finish-spec : {M : Type 1} → statement M
@@ -118,7 +147,7 @@ finish-spec =
     wide-requires
     add-end
     need-of-requires
-    fill-requires
+    fill-table-requires
     value-at-requires
     zero-first-requires
     of-requires

@@ -1,18 +1,24 @@
--- `planner::solve` meets its contract: rows are put into number order, and what that gives is finished with. Assumes nothing.
+-- `planner::solve` meets its contract: rows are put into number order, and what that gives is planned. Assumes nothing.
 use Prim.Native.Nat.{ℕ}
 use mathlib.Core.Path.{_≡_, ap, _∙_}
 use mathlib.Core.List.{List}
 use native.Mathlib.Omega.{arith}
-use lib.ListN.{length, getD-replicate}
+use lib.ListN.{length}
 use denote.Ref.{now}
 use Rattle.day.specs.Windows.{at}
 use Rattle.day.specs.Number.{Numbered}
 use Rattle.day.proofs.Cases.{give}
 use Rattle.planner.specs.Table.{need}
-use borrow.Author.Needs.{needs}
 use Rattle.planner.proofs.Finished.{numbered-new, releases-fit, deadlines-fit, row-below-count, rows-apart, prepared-of, solved}
+use borrow.Author.Needs.{needs}
 use Rattle.planner.proofs.solve.Statement.{statement}
 use Rattle.planner.proofs.solve.Tie as tie
+
+number-rows-requires : tie.Need-number-rows-requires
+number-rows-requires c κs = search needs
+
+slice-aggregate-by-number : tie.Need-slice-aggregate-by-number
+slice-aggregate-by-number c = search needs
 
 -- once the rows are numbered
 module _ (c : tie.After-number-rows) where
@@ -34,18 +40,11 @@ module _ (c : tie.After-number-rows) where
   numbered : Numbered (length order) (at deadlines) (at order)
   numbered = numbered-new deadlines (now (start .args .order)) order (c .number-rows .ensures)
 
-number-rows-requires : tie.Need-number-rows-requires
-number-rows-requires c κs = search needs
-
-slice-aggregate-by-number : tie.Need-slice-aggregate-by-number
-slice-aggregate-by-number c = search needs
-
 by-number-requires : tie.Need-by-number-requires
 by-number-requires c κs =
-    let n = c .before .before .before .before in
-    let accepted = start n .pre .0 in (
-      omega (arith, accepted .rows .count),
-      λ k h. give (releases-fit (start n .args .day) (releases n) (deadlines n) (order n) accepted (length (order n)) (all n) (numbered n) k h)
+    let n = c .before .before .before .before in (
+      omega (arith, start n .pre .0 .rows .count),
+      λ k h. give (releases-fit (start n .args .day) (releases n) (deadlines n) (order n) (start n .pre .0) _ (all n) (numbered n) k h)
           (λ f. (f .0, omega arith)),
     )
 
@@ -54,55 +53,26 @@ slice-aggregate-by-number-2 c = search needs
 
 by-number-requires-2 : tie.Need-by-number-requires-2
 by-number-requires-2 c κs =
-    let n = c .before .before .before .before .before .before .before .before in
-    let accepted = start n .pre .0 in (
-      omega (arith, accepted .rows .count),
-      λ k h. give (deadlines-fit (start n .args .day) (releases n) (deadlines n) (order n) accepted (length (order n)) (all n) (numbered n) k h)
+    let n = c .before .before .before .before .before .before .before .before in (
+      omega (arith, start n .pre .0 .rows .count),
+      λ k h. give (deadlines-fit (start n .args .day) (releases n) (deadlines n) (order n) (start n .pre .0) _ (all n) (numbered n) k h)
           (λ f. (f .0, omega arith)),
     )
 
-slice-aggregate-mark-lowest : tie.Need-slice-aggregate-mark-lowest
-slice-aggregate-mark-lowest c = search needs
+slice-aggregate-plan-numbered : tie.Need-slice-aggregate-plan-numbered
+slice-aggregate-plan-numbered c = search needs
 
-slice-aggregate-mark-lowest-2 : tie.Need-slice-aggregate-mark-lowest-2
-slice-aggregate-mark-lowest-2 c = search needs
+slice-aggregate-plan-numbered-2 : tie.Need-slice-aggregate-plan-numbered-2
+slice-aggregate-plan-numbered-2 c = search needs
 
-mark-lowest-requires : tie.Need-mark-lowest-requires
-mark-lowest-requires c κs =
-    let n = c .before .before .before .before .before .before .before .before .before .before .before .before in
-    let accepted = start n .pre .0 in
-    let first = c .before .before .before .before .before .before .before .by-number .ensures in (
-      (accepted .rows .count, omega (arith, first .long)),
-      (
-        λ k h. omega (
-          arith,
-          first .inside k (omega arith) (omega (arith, all n)),
-          releases-fit (start n .args .day) (releases n) (deadlines n) (order n) accepted (length (order n)) (all n) (numbered n) k
-              (omega (arith, all n)),
-        ),
-        λ t h. omega (arith, getD-replicate {A = ℕ} 99 t 40 0 (omega arith)),
-      ),
-    )
-
-slice-aggregate-finish : tie.Need-slice-aggregate-finish
-slice-aggregate-finish c = search needs
-
-slice-aggregate-finish-2 : tie.Need-slice-aggregate-finish-2
-slice-aggregate-finish-2 c = search needs
-
-slice-aggregate-finish-3 : tie.Need-slice-aggregate-finish-3
-slice-aggregate-finish-3 c = search needs
-
-finish-requires : tie.Need-finish-requires
-finish-requires c κs =
-    let n = c .before .before .before .before .before .before .before .before .before .before .before .before .before .before .before .before .before .before .before .before in
+plan-numbered-requires : tie.Need-plan-numbered-requires
+plan-numbered-requires c κs =
+    let n = c .before .before .before .before .before .before .before .before .before .before .before .before .before .before .before in
     let day = start n .args .day in
-    let accepted = start n .pre .0 in
-    let few = accepted .rows .count in
-    let marks = c .before .before .before .before .before .before .before .mark-lowest .ensures in (
+    let accepted = start n .pre .0 in (
       prepared-of day (releases n) (deadlines n) (order n) accepted (length (order n)) (all n) (numbered n) _ _ _ _
-          (c .before .before .before .before .before .before .before .before .before .before .before .before .before .before .before .by-number .ensures) (c .before .before .before .before .before .before .before .before .before .before .before .by-number2 .ensures) _
-          (omega (arith, all n)) (omega (arith, all n)) (omega (arith, marks .0, accepted .slots)) (rw (← all n) at (marks .1)),
+          (c .before .before .before .before .before .before .before .before .before .before .by-number .ensures) (c .before .before .before .before .before .before .by-number2 .ensures)
+          (omega (arith, accepted .rows .count, all n)) (omega (arith, accepted .rows .count, all n)),
       (
         omega (arith, ap (need (day .slots)) (all n), start n .pre .1 .1),
         (
@@ -127,10 +97,10 @@ same-length-3 c = search needs
 
 returns : tie.Need-returns
 returns c =
-    let n = c .before .before .before .before .before .before .before .before .before .before .before .before .before .before .before .before .before .before .before .before .before .before .before .before .before in
+    let n = c .before .before .before .before .before .before .before .before .before .before .before .before .before .before .before .before .before .before .before .before in
     solved (start n .args .day) (releases n) (deadlines n) (order n) (start n .pre .0) (length (order n)) (all n) (numbered n) _ _ _ _
-    (c .before .before .before .before .before .before .before .before .before .before .before .before .before .before .before .before .before .before .before .before .by-number .ensures) (c .before .before .before .before .before .before .before .before .before .before .before .before .before .before .before .before .by-number2 .ensures)
-    (now (start n .args .starts)) (now (start n .args .table)) _ _ _ (c .before .before .before .before .finish .ensures)
+    (c .before .before .before .before .before .before .before .before .before .before .before .before .before .before .before .by-number .ensures) (c .before .before .before .before .before .before .before .before .before .before .before .by-number2 .ensures)
+    (now (start n .args .starts)) (now (start n .args .table)) _ _ _ (c .before .before .before .before .plan-numbered .ensures)
 
 pub solve-spec : {M : Type 1} → statement M
 solve-spec =
@@ -141,13 +111,9 @@ solve-spec =
     by-number-requires
     slice-aggregate-by-number-2
     by-number-requires-2
-    slice-aggregate-mark-lowest
-    slice-aggregate-mark-lowest-2
-    mark-lowest-requires
-    slice-aggregate-finish
-    slice-aggregate-finish-2
-    slice-aggregate-finish-3
-    finish-requires
+    slice-aggregate-plan-numbered
+    slice-aggregate-plan-numbered-2
+    plan-numbered-requires
     same-length
     same-length-2
     same-length-3

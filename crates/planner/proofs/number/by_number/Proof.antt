@@ -3,9 +3,9 @@ use Prim.Native.Nat.{_-_, _≤_}
 use mathlib.Core.Path.{_≡_, refl}
 use native.Mathlib.Omega.{arith}
 use lib.ListN.{length}
-use Rattle.planner.specs.Written.{Written, itself}
+use Rattle.engine.specs.Written.{Written, itself}
 use Rattle.planner.specs.Jobs.{by-number}
-use Rattle.planner.proofs.Written.{written-none, written-more}
+use Rattle.engine.proofs.Written.{written-none, written-more}
 use Rattle.planner.proofs.number.by_number.Statement.{statement}
 use Rattle.planner.proofs.number.by_number.Tie as tie
 

@@ -1,0 +1,31 @@
+-- `engine::back::inside` meets its contract. Assumes nothing.
+use mathlib.Core.Path.{refl}
+use native.Mathlib.Omega.{arith}
+use borrow.Author.Tests.{ltb-true, ltb-false}
+use Rattle.day.proofs.Cases.{not-both}
+use borrow.Author.Needs.{needs}
+use Rattle.engine.proofs.back.inside.Statement.{statement}
+use Rattle.engine.proofs.back.inside.Tie as tie
+
+mul-wide : tie.Need-mul-wide
+mul-wide c = search needs
+
+shared-slice-read-wide : tie.Need-shared-slice-read-wide
+shared-slice-read-wide c = search needs
+
+wide-requires : tie.Need-wide-requires
+wide-requires c κs = search needs
+
+returns : tie.Need-returns
+returns c =
+    let start = c .before .before .before .before in
+    record {
+      yes = λ h. (omega arith, omega (arith, ltb-true (c .before .wide .result) (start .args .to) h));
+      no = λ h i. omega (arith, ltb-false (c .before .wide .result) (start .args .to) h, i .1);
+    }
+
+returns-2 : tie.Need-returns-2
+returns-2 c = record { yes = λ h. absurd (not-both h refl); no = λ h i. omega (arith, i .0) }
+
+pub inside-spec : {M : Type 1} → statement M
+inside-spec = tie.close (tie.spec mul-wide shared-slice-read-wide wide-requires returns returns-2)

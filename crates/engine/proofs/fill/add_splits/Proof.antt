@@ -1,0 +1,177 @@
+-- `engine::fill::add_splits` meets its contract: the sums are the least over the splits passed. Assumes nothing.
+use Prim.Native.Nat.{ℕ, _+_, _-_, _≤_, _<_}
+use mathlib.Core.Path.{_≡_, refl, ap, _∙_}
+use mathlib.Core.Logic.{⊎-elim}
+use native.Mathlib.Omega.{arith}
+use lib.ListN.{length}
+use denote.Ref.{now}
+use Rattle.day.specs.Windows.{at}
+use Rattle.engine.specs.Lent.{Lent, lent, layout-of}
+use Rattle.engine.specs.Places.{row, place}
+use Rattle.engine.specs.steps.Level.{one-job}
+use borrow.Author.Needs.{needs}
+use Rattle.engine.proofs.Places.{place-below, row-below}
+use Rattle.engine.proofs.Sums.{Sums, sums-none, unmarked-skipped, split-fits, split-lowers, sums-value}
+use Rattle.engine.proofs.fill.add_splits.Statement.{statement}
+use Rattle.engine.proofs.fill.add_splits.Tie as tie
+
+abbrev Inv-loop : tie.InvT-loop
+Inv-loop shape begins rel dead marks job from table sums₀ deadline split₀ sums split = (at rel job ≤ split) × (split ≤ deadline) × (deadline < shape .points) × (length sums ≡ length sums₀) × Sums
+    (one-job (lent shape begins rel dead marks) table job) (shape .points) from split sums
+
+abbrev μ-loop : tie.MeasureT-loop
+μ-loop shape begins rel dead marks job from table sums₀ deadline split₀ sums split = deadline - split
+
+abbrev given : tie.Start Inv-loop μ-loop → Lent
+given start =
+    lent (start .args .shape) (now (start .args .begins)) (now (start .args .rel)) (now (start .args .dead)) (now (start .args .marks))
+
+mul-wide : tie.Need-mul-wide Inv-loop μ-loop
+mul-wide c = omega (arith, c .before .before .before .before .before .before .pre .0 .prepared .deadlines)
+
+shared-slice-read-wide : tie.Need-shared-slice-read-wide Inv-loop μ-loop
+shared-slice-read-wide c = omega (arith, c .before .before .before .before .before .before .before .pre .0 .prepared .deadlines)
+
+wide-requires : tie.Need-wide-requires Inv-loop μ-loop
+wide-requires c κs = search needs
+
+mul-wide-2 : tie.Need-mul-wide-2 Inv-loop μ-loop
+mul-wide-2 c = omega (arith, c .before .before .before .before .before .before .before .before .pre .0 .prepared .releases)
+
+shared-slice-read-wide-2 : tie.Need-shared-slice-read-wide-2 Inv-loop μ-loop
+shared-slice-read-wide-2 c = omega (arith, c .before .before .before .before .before .before .before .before .before .pre .0 .prepared .releases)
+
+wide-requires-2 : tie.Need-wide-requires-2 Inv-loop μ-loop
+wide-requires-2 c κs = search needs
+
+loop-holds : tie.Need-loop-holds Inv-loop μ-loop
+loop-holds c =
+    let start = c .before .before .before .before .before .before .before .before .before .before in
+    let p = start .pre .0 .prepared in
+    let a = start .args in (
+      omega arith,
+      omega (arith, p .window (a .job) (omega arith)),
+      omega (arith, p .before-end (a .job) (omega arith)),
+      refl,
+      rw (c .wide2 .ensures .0)
+          (sums-none (one-job (given start) (now (a .table)) (a .job)) (a .shape .points) (a .from) (now (a .sums)) (start .pre .1 .1)),
+    )
+
+mul-wide-3 : tie.Need-mul-wide-3 Inv-loop μ-loop
+mul-wide-3 c = omega (arith, c .before .before .before .before .before .before .before .before .before .before .before .before .pre .0 .prepared .marked)
+
+shared-slice-read-wide-3 : tie.Need-shared-slice-read-wide-3 Inv-loop μ-loop
+shared-slice-read-wide-3 c = omega (arith, c .before .before .before .before .before .before .before .before .before .before .before .before .before .pre .0 .prepared .marked)
+
+wide-requires-3 : tie.Need-wide-requires-3 Inv-loop μ-loop
+wide-requires-3 c κs = search needs
+
+-- within the loop, each fact by itself, which keeps the check small
+module _ (c : tie.After-wide3 Inv-loop μ-loop) where
+  abbrev start : tie.Start Inv-loop μ-loop
+  start = c .before .before .before .before .before .before .before .before .before .before .before .before .before .before
+
+  abbrev split : ℕ
+  split = c .before .before .before .loop .split
+
+  within : split < at (now (start .args .dead)) (start .args .job)
+  within = omega arith
+
+  begun : start .args .from ≤ split
+  begun = omega (arith, start .pre .1 .0)
+
+  before-end : split + 1 < start .args .shape .points
+  before-end = omega arith
+
+  room : start .args .shape .points ≤ length (c .before .before .before .loop .sums)
+  room = omega (arith, start .pre .1 .0)
+
+  left-there : place (layout-of (given start)) (start .args .job) (start .args .from) split < length (now (start .args .table))
+  left-there =
+      omega (
+        arith,
+        start .pre .0 .room,
+        place-below (start .pre .0 .prepared .fits) (start .args .job + 1) (start .args .job) (start .args .from) split (omega arith)
+            (begun, omega (arith, before-end)),
+      )
+
+  right-there : row (layout-of (given start)) (start .args .job) (split + 1) + start .args .shape .points ≤ length (now (start .args .table))
+  right-there =
+      omega (
+        arith,
+        start .pre .0 .room,
+        row-below (start .pre .0 .prepared .fits) (start .args .job + 1) (start .args .job) (split + 1) _ (omega arith) before-end refl,
+      )
+
+add-split-requires : tie.Need-add-split-requires Inv-loop μ-loop
+add-split-requires c κs =
+    let e = c .before .before in
+    let f = start e .pre .0 in (
+      (begun e, before-end e, f .prepared .rows, room e),
+      (
+        (left-there e, right-there e),
+        split-fits f (start e .args .from) (split e) (e .before .before .before .loop .sums) (within e) (e .before .before .before .loop .inv .4) (begun e) (e .before .before .before .loop .inv .0),
+      ),
+    )
+
+add-split : tie.Need-add-split Inv-loop μ-loop
+add-split c = omega arith
+
+loop-less : tie.Need-loop-less Inv-loop μ-loop
+loop-less c = omega arith
+
+loop-again : tie.Need-loop-again Inv-loop μ-loop
+loop-again c =
+    let e = c .before in
+    let l = e .before .before .before .loop in (
+      omega arith,
+      omega arith,
+      l .inv .2,
+      ⊎-elim (λ w. ap length (w .5) ∙ w .2 .ensures .long ∙ l .inv .3) (λ w. ap length (w .1) ∙ l .inv .3) (c .if1 .came),
+      ⊎-elim
+          (λ w.
+          rw (w .5)
+          (split-lowers (start e .pre .0) (start e .args .from) (split e) (l .sums) (within e) (l .inv .4) (begun e) (l .inv .0) _
+          (omega (arith, e .wide3 .ensures .0, w .0 .taken)) (w .2 .ensures)))
+          (λ w.
+          rw (w .1)
+          (unmarked-skipped (start e .pre .0) (start e .args .from) (split e) (l .sums) (within e) (l .inv .4)
+          (omega (arith, e .wide3 .ensures .0, w .0 .left))))
+          (c .if1 .came),
+    )
+
+same-length : tie.Need-same-length Inv-loop μ-loop
+same-length c = c .before .loop .inv .3
+
+returns : tie.Need-returns Inv-loop μ-loop
+returns c =
+    let start = c .before .before .before .before .before .before .before .before .before .before .before .before in
+    let a = start .args in
+    let e : c .before .loop .split ≡ at (now (a .dead)) (a .job) = omega arith in (
+      c .before .loop .inv .3,
+      λ x h l. sums-value (one-job (given start) (now (a .table)) (a .job)) (a .shape .points) (a .from) x
+          (c .before .loop .sums) (start .pre .1 .0 .0) h l (rw e at (c .before .loop .inv .4)),
+    )
+
+pub add-splits-spec : {M : Type 1} → statement M
+add-splits-spec =
+    tie.close
+    (tie.spec
+    Inv-loop
+    μ-loop
+    mul-wide
+    shared-slice-read-wide
+    wide-requires
+    mul-wide-2
+    shared-slice-read-wide-2
+    wide-requires-2
+    loop-holds
+    mul-wide-3
+    shared-slice-read-wide-3
+    wide-requires-3
+    add-split-requires
+    add-split
+    loop-less
+    loop-again
+    same-length
+    returns)

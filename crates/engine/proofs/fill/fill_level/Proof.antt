@@ -1,0 +1,66 @@
+-- `engine::fill::fill_level` meets its contract: the rows up to the release are sums, those after it copies. Assumes nothing.
+use Prim.Native.Nat.{_+_}
+use native.Mathlib.Omega.{arith}
+use denote.Ref.{now}
+use Rattle.day.specs.Windows.{at}
+use Rattle.engine.proofs.Level.{released-before-end, rest-copied}
+use borrow.Author.Needs.{needs}
+use Rattle.engine.proofs.fill.fill_level.Statement.{statement}
+use Rattle.engine.proofs.fill.fill_level.Tie as tie
+
+sum-rows-requires : tie.Need-sum-rows-requires
+sum-rows-requires c κs = search needs
+
+mul-wide : tie.Need-mul-wide
+mul-wide c = search needs
+
+shared-slice-read-wide : tie.Need-shared-slice-read-wide
+shared-slice-read-wide c = search needs
+
+wide-requires : tie.Need-wide-requires
+wide-requires c κs = search needs
+
+add-after : tie.Need-add-after
+add-after c = search needs
+
+copy-level-requires : tie.Need-copy-level-requires
+copy-level-requires c κs =
+    let start = c .before .before .before .before .before .before .before .before .before .before .before .before .before .before .before .before in
+    let p = start .pre .0 .prepared in (
+      p .fits,
+      (
+        p .rows,
+        omega (arith, start .pre .0 .room, c .before .before .before .before .before .before .before .sum-rows .ensures .1 .long),
+        omega (arith, p .releases),
+        omega (arith, released-before-end (start .pre .0), c .before .wide .ensures .0),
+      ),
+    )
+
+same-length : tie.Need-same-length
+same-length c = search needs
+
+same-length-2 : tie.Need-same-length-2
+same-length-2 c = search needs
+
+returns : tie.Need-returns
+returns c =
+    let start = c .before .before .before .before .before .before .before .before .before .before .before .before .before .before .before .before .before .before .before in
+    let a = start .args in (
+      c .before .before .before .before .before .before .before .before .before .before .sum-rows .ensures .0,
+      rest-copied (start .pre .0) (at (now (a .rel)) (a .job) + 1) _ _ (omega arith) (omega (arith, released-before-end (start .pre .0)))
+          (c .before .before .before .before .before .before .before .before .before .before .sum-rows .ensures .1) (rw (c .before .before .before .before .wide .ensures .0) at (c .before .before .copy-level .ensures)),
+    )
+
+pub fill-level-spec : {M : Type 1} → statement M
+fill-level-spec =
+    tie.close
+    (tie.spec
+    sum-rows-requires
+    mul-wide
+    shared-slice-read-wide
+    wide-requires
+    add-after
+    copy-level-requires
+    same-length
+    same-length-2
+    returns)

@@ -1,0 +1,29 @@
+-- `engine::rows::row_of` meets its contract. Assumes nothing.
+use mathlib.Core.Path.{refl}
+use native.Mathlib.Omega.{arith}
+use Rattle.engine.specs.Places.{row}
+use borrow.Author.Needs.{needs}
+use Rattle.engine.proofs.rows.row_of.Statement.{statement}
+use Rattle.engine.proofs.rows.row_of.Tie as tie
+
+mul-result : tie.Need-mul-result
+unfolding row
+mul-result c = omega arith
+
+mul-result-2 : tie.Need-mul-result-2
+mul-result-2 c = search needs
+
+shared-slice-read-result : tie.Need-shared-slice-read-result
+shared-slice-read-result c = search needs
+
+add-result : tie.Need-add-result
+unfolding row
+add-result c = omega arith
+
+returns : tie.Need-returns
+unfolding row
+returns c = refl
+
+pub row-of-spec : {M : Type 1} → statement M
+row-of-spec =
+    tie.close (tie.spec mul-result mul-result-2 shared-slice-read-result add-result returns)

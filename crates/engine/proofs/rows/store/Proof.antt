@@ -1,0 +1,73 @@
+-- `engine::rows::store` meets its contract: the places of lo up to e are stored. Assumes nothing.
+use Prim.Native.Nat.{_-_, _≤_}
+use mathlib.Core.Path.{_≡_, refl}
+use native.Mathlib.Omega.{arith}
+use Rattle.day.specs.Windows.{at}
+use Rattle.engine.specs.Written.{Written, after}
+use Rattle.engine.proofs.Written.{written-none, written-more}
+use Rattle.engine.proofs.rows.store.Statement.{statement}
+use Rattle.engine.proofs.rows.store.Tie as tie
+
+abbrev Inv-loop : tie.InvT-loop
+Inv-loop table₀ to finished lo hi e₀ table e = (lo ≤ e) × (e ≤ hi) × Written (after to) lo e (at finished) table₀ table
+
+abbrev μ-loop : tie.MeasureT-loop
+μ-loop table₀ to finished lo hi e₀ table e = hi - e
+
+loop-holds : tie.Need-loop-holds Inv-loop μ-loop
+loop-holds c = (omega arith, omega arith, written-none _ _ _ _)
+
+mul-table : tie.Need-mul-table Inv-loop μ-loop
+mul-table c = omega arith
+
+shared-slice-read-table : tie.Need-shared-slice-read-table Inv-loop μ-loop
+shared-slice-read-table c = omega arith
+
+add-table : tie.Need-add-table Inv-loop μ-loop
+add-table c = omega arith
+
+mul-table-2 : tie.Need-mul-table-2 Inv-loop μ-loop
+mul-table-2 c = omega arith
+
+slice-write-table : tie.Need-slice-write-table Inv-loop μ-loop
+slice-write-table c = omega arith
+
+add-e : tie.Need-add-e Inv-loop μ-loop
+add-e c = omega arith
+
+loop-less : tie.Need-loop-less Inv-loop μ-loop
+loop-less c = omega arith
+
+loop-again : tie.Need-loop-again Inv-loop μ-loop
+loop-again c =
+    let l = c .before .before .loop in (
+      omega arith,
+      omega arith,
+      written-more _ _ _ _ _ _ _ (λ x h q. omega arith) (omega arith) (omega arith) refl (l .inv .2),
+    )
+
+same-length : tie.Need-same-length Inv-loop μ-loop
+same-length c = c .before .loop .inv .2 .long
+
+returns : tie.Need-returns Inv-loop μ-loop
+returns c =
+    let e : c .before .loop .e ≡ c .before .before .args .hi = omega arith in
+    rw e at (c .before .loop .inv .2)
+
+pub store-spec : {M : Type 1} → statement M
+store-spec =
+    tie.close
+    (tie.spec
+    Inv-loop
+    μ-loop
+    loop-holds
+    mul-table
+    shared-slice-read-table
+    add-table
+    mul-table-2
+    slice-write-table
+    add-e
+    loop-less
+    loop-again
+    same-length
+    returns)

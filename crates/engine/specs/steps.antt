@@ -1,0 +1,3 @@
+-- What functions of the engine promise each other.
+pub mod Level
+pub mod Highest

@@ -1,0 +1,89 @@
+// The places of a table: where a row begins, what stands at a place, and copying from row to row.
+ghost use mathlib.Core.Path.{_≡_};
+ghost use Prim.Native.Nat.{_+_, _<_, _≤_};
+ghost use lib.ListN.{length};
+ghost use Rattle.day.specs.Windows.{at};
+ghost use Rattle.engine.specs.Places.{Fits, row, place, need, layout};
+ghost use Rattle.engine.specs.Written.{Written, after, itself, along, always, Apart, Rows};
+use crate::Shape;
+
+// What lies before the row of the lowest `jobs` jobs and the point `from`.
+pub fn row_of(shape: Shape, begins: &[usize], jobs: usize, from: usize) -> usize
+    requires { ⌜ (from < length (now begins)) × (row (layout shape (now begins)) jobs from < 18446744073709551616) ⌝ }
+    ensures { λ r. ⌜ r ≡ row (layout shape (now (begins .entry))) jobs from ⌝ }
+{
+    jobs * shape.level + begins[from]
+}
+
+// What stands for the lowest `jobs` jobs and the span from `from` to `to`.
+pub fn value_at(
+    table: &[u16],
+    shape: Shape,
+    begins: &[usize],
+    jobs: usize,
+    from: usize,
+    to: usize,
+) -> u16
+    requires { ⌜ (from < length (now begins)) × (place (layout shape (now begins)) jobs from to < length (now table)) ⌝ }
+    ensures { λ r. ⌜ r ≡ at (now (table .entry)) (place (layout shape (now (begins .entry))) jobs from to) ⌝ }
+{
+    let row = row_of(shape, begins, jobs, from);
+    table[row + to]
+}
+
+// Copies the places `lo` to `hi` of one row to another.
+pub(crate) fn copy(table: &mut [u16], from: usize, to: usize, lo: usize, hi: usize)
+    requires { ⌜ (lo ≤ hi) × (from + hi ≤ length (now table)) × (to + hi ≤ length (now table)) × Apart from to lo hi ⌝ }
+    ensures { λ _. ⌜ Written (after to) lo hi (along (now (table .entry)) from) (now (table .entry)) (now (table .exit)) ⌝ }
+{
+    let mut e = lo;
+    while e < hi {
+        table[to + e] = table[from + e];
+        e += 1;
+    }
+}
+
+// Copies the rows of the lowest `jobs` jobs from the point `first` on to the next level.
+pub(crate) fn copy_level(
+    table: &mut [u16],
+    shape: Shape,
+    begins: &[usize],
+    jobs: usize,
+    first: usize,
+)
+    requires { ⌜ Fits (layout shape (now begins)) ⌝ }
+    requires { ⌜ (shape .points ≤ length (now begins)) × (need (layout shape (now begins)) (jobs + 1) ≤ length (now table)) × (jobs < 18446744073709551615) × (first ≤ shape .points) ⌝ }
+    ensures { λ _. ⌜ Rows (layout shape (now (begins .entry))) (jobs + 1) first (shape .points) (λ s. along (now (table .entry)) (row (layout shape (now (begins .entry))) jobs s)) (now (table .entry)) (now (table .exit)) ⌝ }
+{
+    let mut from = first;
+    while from < shape.points {
+        let below = row_of(shape, begins, jobs, from);
+        let here = row_of(shape, begins, jobs + 1, from);
+        copy(&mut *table, below, here, from, shape.points);
+        from += 1;
+    }
+}
+
+// Stores the places `lo` to `hi` of a finished row.
+pub(crate) fn store(table: &mut [u16], to: usize, finished: &[u16], lo: usize, hi: usize)
+    requires { ⌜ (lo ≤ hi) × (hi ≤ length (now finished)) × (to + hi ≤ length (now table)) ⌝ }
+    ensures { λ _. ⌜ Written (after to) lo hi (at (now (finished .entry))) (now (table .entry)) (now (table .exit)) ⌝ }
+{
+    let mut e = lo;
+    while e < hi {
+        table[to + e] = finished[e];
+        e += 1;
+    }
+}
+
+// Sets the places `lo` to `hi` to one number.
+pub(crate) fn put(places: &mut [u16], number: u16, lo: usize, hi: usize)
+    requires { ⌜ (lo ≤ hi) × (hi ≤ length (now places)) ⌝ }
+    ensures { λ _. ⌜ Written itself lo hi (always number) (now (places .entry)) (now (places .exit)) ⌝ }
+{
+    let mut e = lo;
+    while e < hi {
+        places[e] = number;
+        e += 1;
+    }
+}

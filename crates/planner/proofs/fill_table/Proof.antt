@@ -1,0 +1,46 @@
+-- `planner::fill_table` meets its contract: over the prices the engine fills the levels. Assumes nothing.
+use native.Mathlib.Omega.{arith}
+use denote.Ref.{now}
+use Rattle.planner.proofs.Finished.{room, room-for-prices, priced-small, tabled}
+use borrow.Author.Needs.{needs}
+use Rattle.planner.proofs.fill_table.Statement.{statement}
+use Rattle.planner.proofs.fill_table.Tie as tie
+
+price-level-requires : tie.Need-price-level-requires
+price-level-requires c κs =
+    let start = c .before .before .before .before .before .before in
+    let given = start .pre .0 in (
+      given .lendable .fits,
+      (given .jobs .slots, given .points, given .lendable .rows, room-for-prices given (now (start .args .table)) (start .pre .1)),
+    )
+
+slice-aggregate-fill : tie.Need-slice-aggregate-fill
+slice-aggregate-fill c = search needs
+
+fill-requires : tie.Need-fill-requires
+fill-requires c κs =
+    let start = c .before .before .before .before .before .before .before .before .before .before .before in
+    let given = start .pre .0 in
+    let priced = c .before .before .before .before .price-level .ensures in (
+      given .lendable,
+      (
+        (
+          omega (arith, start .pre .1, priced .long, room given (now (start .args .table)) (start .pre .1)),
+          omega (arith, given .points, given .jobs .slots),
+        ),
+        priced-small given (now (start .args .table)) (start .pre .1) _ priced,
+      ),
+    )
+
+same-length : tie.Need-same-length
+same-length c = search needs
+
+returns : tie.Need-returns
+returns c =
+    let start = c .before .before .before .before .before .before .before .before .before .before .before .before .before .before .before in
+    tabled (start .pre .0) (now (start .args .table)) (start .pre .1) _ (c .before .before .before .before .before .before .before .before .price-level .ensures) _ (c .before .before .before .fill .ensures)
+
+pub fill-table-spec : {M : Type 1} → statement M
+fill-table-spec =
+    tie.close
+    (tie.spec price-level-requires slice-aggregate-fill fill-requires same-length returns)

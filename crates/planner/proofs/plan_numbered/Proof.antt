@@ -1,0 +1,110 @@
+-- `planner::plan_numbered` meets its contract: what it lends the engine poses the problem of the jobs. Assumes nothing.
+use Prim.Native.Nat.{ℕ, _+_, _*_}
+use mathlib.Core.Path.{_≡_}
+use native.Mathlib.Omega.{arith}
+use lib.ListN.{length, getD-replicate}
+use denote.Ref.{now}
+use Rattle.engine.specs.Lent.{Lent, lent}
+use Rattle.rule.specs.Span.{Problem}
+use Rattle.planner.specs.Jobs.{none, ProblemOf, Given, Asks}
+use Rattle.planner.proofs.Jobs.{given-of, asks-of}
+use borrow.Author.Needs.{needs}
+use Rattle.planner.proofs.plan_numbered.Statement.{statement}
+use Rattle.planner.proofs.plan_numbered.Tie as tie
+
+slice-aggregate-mark-releases : tie.Need-slice-aggregate-mark-releases
+slice-aggregate-mark-releases c = search needs
+
+mark-releases-requires : tie.Need-mark-releases-requires
+mark-releases-requires c κs =
+    let s = c .before .before .before .before .before .before in
+    let p = s .pre .0 in (
+      (omega (arith, p .few), p .releases),
+      (
+        λ k h. omega (arith, p .window k h, p .in-day k h, p .slots),
+        λ t h u. omega (arith, p .few, getD-replicate {A = ℕ} 99 t 40 0 (omega arith)),
+      ),
+    )
+
+wide-requires : tie.Need-wide-requires
+wide-requires c κs = search needs
+
+add-points : tie.Need-add-points
+add-points c = search needs
+
+slice-aggregate-begin-rows : tie.Need-slice-aggregate-begin-rows
+slice-aggregate-begin-rows c = search needs
+
+begin-rows-requires : tie.Need-begin-rows-requires
+begin-rows-requires c κs = search needs
+
+shape-of-requires : tie.Need-shape-of-requires
+shape-of-requires c κs = search needs
+
+slice-aggregate-finish : tie.Need-slice-aggregate-finish
+slice-aggregate-finish c = search needs
+
+slice-aggregate-finish-2 : tie.Need-slice-aggregate-finish-2
+slice-aggregate-finish-2 c = search needs
+
+-- once the table is laid out
+module _ (c : tie.After-shape-of) where
+  abbrev start : tie.Start
+  start = c .before .before .before .before .before .before .before .before .before .before .before .before .before
+
+  abbrev n : ℕ
+  n = length (now (start .args .order))
+
+  abbrev lists : Lent
+  lists =
+      lent (c .shape-of .result) (c .before .before .begin-rows .last .1 .0) (now (start .args .rel)) (now (start .args .dead))
+      (c .before .before .before .before .before .before .mark-releases .last .1 .1 .0)
+
+  size : (c .shape-of .result .points ≡ start .args .day .slots + 3)
+      × (c .shape-of .result .level ≡ (start .args .day .slots + 3) * (start .args .day .slots + 3))
+      × (c .shape-of .result .none ≡ none)
+  size = rw (c .before .before .before .before .wide .ensures .0) at (c .shape-of .ensures)
+
+  given : Given (start .args .day) lists n
+  given =
+      given-of (start .pre .0) _ _ _ _ _ size (rw (c .before .before .before .before .wide .ensures .0) at (c .before .before .begin-rows .ensures)) (c .before .before .before .before .before .before .mark-releases .ensures)
+      (omega (arith, start .pre .0 .slots)) (omega (arith, start .pre .0 .slots))
+
+  asks : (P : Problem) → ProblemOf (start .args .day) (now (start .args .rel)) (now (start .args .dead)) n P
+      → Asks (start .args .day) lists n P
+  asks =
+      asks-of (start .pre .0) _ _ _ _ _ size (rw (c .before .before .before .before .wide .ensures .0) at (c .before .before .begin-rows .ensures)) (c .before .before .before .before .before .before .mark-releases .ensures)
+      (omega (arith, start .pre .0 .slots)) (omega (arith, start .pre .0 .slots))
+      (λ t h. omega (arith, getD-replicate {A = ℕ} 99 t 40 0 (omega arith)))
+
+finish-requires : tie.Need-finish-requires
+finish-requires c κs =
+    let s = start (c .before .before .before .before) in
+    (given (c .before .before .before .before), s .pre .1)
+
+same-length : tie.Need-same-length
+same-length c = search needs
+
+same-length-2 : tie.Need-same-length-2
+same-length-2 c = search needs
+
+returns : tie.Need-returns
+returns c = λ P o. c .before .before .before .before .finish .ensures P (asks (c .before .before .before .before .before .before .before .before .before) P o)
+
+pub plan-numbered-spec : {M : Type 1} → statement M
+plan-numbered-spec =
+    tie.close
+    (tie.spec
+    slice-aggregate-mark-releases
+    mark-releases-requires
+    wide-requires
+    add-points
+    slice-aggregate-begin-rows
+    begin-rows-requires
+    shape-of-requires
+    slice-aggregate-finish
+    slice-aggregate-finish-2
+    finish-requires
+    same-length
+    same-length-2
+    returns)
