@@ -1,5 +1,5 @@
 -- Laws of the checks that entry points share: each is a check, and what holds of a list that they accept. Assumes nothing.
-use Prim.Native.Nat.{ℕ, _≤_}
+use Prim.Native.Nat.{ℕ, _≤_, _<_}
 use mathlib.Core.List.{List}
 use mathlib.Core.Logic.{_⊎_, inl, inr, ⊎-elim}
 use native.Mathlib.Omega.{arith}
@@ -8,9 +8,11 @@ use Rattle.day.specs.declared.Answer.{Answer}
 use Rattle.day.specs.declared.Power.{Power}
 use Rattle.day.specs.declared.Day.{Day}
 use Rattle.day.specs.Windows.{Windows, windows}
+use Rattle.day.specs.Answer.{bad-row}
 use Rattle.day.specs.Check.{
   most-slots,
   most-wake,
+  most-jobs,
   SlotsCheck,
   PowerCheck,
   BadRow,
@@ -22,6 +24,10 @@ use Rattle.day.specs.Check.{
 }
 use Rattle.day.proofs.Cases.{give, on-le}
 use Rattle.day.proofs.Refusal.{
+  Avoids,
+  refuses-avoids,
+  refuses-row-avoids,
+  then-avoids,
   IsCheck,
   refuses-is-check,
   refuses-row-is-check,
@@ -48,6 +54,16 @@ times-is-check = then-is-check slots-is-check jobs-is-check
 pub list-is-check : {day : Day} {w : Windows} → IsCheck (ListCheck day w)
 list-is-check = then-is-check slots-is-check (then-is-check power-is-check jobs-is-check)
 
+-- they have no code above 4
+jobs-avoids : {code limit slots : ℕ} {w : Windows} → bad-row < code → Avoids code (JobsCheck limit slots w)
+jobs-avoids h = then-avoids (refuses-avoids (λ e. omega arith)) (refuses-row-avoids (λ e. omega arith))
+
+pub times-avoids : {code slots : ℕ} {w : Windows} → bad-row < code → Avoids code (TimesCheck slots w)
+times-avoids h = then-avoids (refuses-avoids (λ e. omega arith)) (jobs-avoids h)
+
+pub list-avoids : {code : ℕ} {day : Day} {w : Windows} → bad-row < code → Avoids code (ListCheck day w)
+list-avoids h = then-avoids (refuses-avoids (λ e. omega arith)) (then-avoids (refuses-avoids (λ e. omega arith)) (jobs-avoids h))
+
 -- whether a row is bad is known
 pub bad-row-known : (slots : ℕ) (w : Windows) (i : ℕ) → BadRow slots w i ⊎ (BadRow slots w i → ⊥)
 bad-row-known slots w i =
@@ -73,10 +89,16 @@ clear-good-rows {limit} {slots} {w} clear =
       in-day = λ i l. on-le (w .deadline i) slots (λ h. h) (λ h. absurd (none i l (inr h)));
     })
 
+-- a day of a right length with good rows is not refused
+pub times-clear : {slots : ℕ} {w : Windows} → 0 < slots → slots ≤ most-slots → GoodRows most-jobs slots w → (b : Answer)
+    → TimesCheck slots w b → ⊥
+times-clear some within good =
+    then-clear (λ b r. ⊎-elim (λ z. omega arith) (λ z. omega arith) (r .fault)) (good-rows-clear good)
+
 -- an accepted list is not refused
 pub accepted-clear : {day : Day} {w : Windows} → Accepted day w → (b : Answer) → ListCheck day w b → ⊥
 accepted-clear accepted =
-    then-clear (λ b r. ⊎-elim (λ z. omega arith) (λ z. omega arith) (r .fault))
+    then-clear (clear-first (times-clear (accepted .some-slots) (accepted .slots) (accepted .rows)))
     (then-clear (λ b r. omega (arith, r .fault)) (good-rows-clear (accepted .rows)))
 
 -- a list that is not refused is accepted

@@ -15,6 +15,7 @@ pub mod Far
 pub mod FarCut
 pub mod Number
 pub mod Best
+pub mod Planned
 pub mod Mirrored
 pub mod Moved
 pub mod Joined

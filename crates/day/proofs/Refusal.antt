@@ -1,5 +1,5 @@
--- Laws of checks in order: each answers once and never with `done`, so that what comes after a check is known from its answer.
--- Assumes nothing.
+-- Laws of checks in order: each answers once and never with `done`, so that what comes after a check is known from its answer; and
+-- which codes a chain never answers with. Assumes nothing.
 use Prim.Native.Nat.{ℕ, zero, suc, _+_, _<_}
 use mathlib.Core.Path.{_≡_, refl, sym, _∙_, ap}
 use mathlib.Core.Logic.{_⊎_, inl, inr, ⊎-elim}
@@ -117,19 +117,38 @@ no-row-at-fault {code} {n} known clear =
     ⊎-elim (λ f. absurd (clear (says code (f .0 + 1) 0) (record { row = f .0; first = f .1; says = refl }))) (λ none. none)
     (first-or-none known n)
 
+pub code-of : {a b : Answer} → a ≡ b → a .code ≡ b .code
+code-of e = ap (λ (a : Answer). a .code) e
+
+-- it never answers with this code
+abbrev pub Avoids : ℕ → (Answer → Type 0) → Type 0
+Avoids code Check = (a : Answer) → Check a → a .code ≡ code → ⊥
+
+pub refuses-avoids : {code other : ℕ} {Fault : Type 0} → (code ≡ other → ⊥) → Avoids other (Refuses code Fault)
+refuses-avoids h a p e = h (rw (p .says) at e)
+
+pub refuses-row-avoids : {code other n : ℕ} {Fault : ℕ → Type 0} → (code ≡ other → ⊥) → Avoids other (RefusesRow code n Fault)
+refuses-row-avoids h a p e = h (rw (p .says) at e)
+
+pub refuses-pair-avoids : {code other n : ℕ} {Fault : ℕ → ℕ → Type 0} → (code ≡ other → ⊥) → Avoids other (RefusesPair code n Fault)
+refuses-pair-avoids h a p e = h (rw (p .says) at e)
+
+pub passed-avoids : {code : ℕ} → (done ≡ code → ⊥) → Avoids code Passed
+passed-avoids h a p e = h (rw p at e)
+
 -- a relation that only refuses, and with one answer
 pub record IsCheck (Check : Answer → Type 0) : Type 0 where
   pub one : (a b : Answer) → Check a → Check b → a ≡ b
-  pub not-done : (a : Answer) → Check a → a .code ≡ done → ⊥
+  pub not-done : Avoids done Check
 
 pub refuses-is-check : {code : ℕ} {Fault : Type 0} → (code ≡ done → ⊥) → IsCheck (Refuses code Fault)
-refuses-is-check h = record { one = λ a b p q. p .says ∙ sym (q .says); not-done = λ a p e. h (rw (p .says) at e) }
+refuses-is-check h = record { one = λ a b p q. p .says ∙ sym (q .says); not-done = refuses-avoids h }
 
 pub refuses-row-is-check : {code n : ℕ} {Fault : ℕ → Type 0} → (code ≡ done → ⊥) → IsCheck (RefusesRow code n Fault)
 refuses-row-is-check {code} h =
     record {
       one = λ a b p q. p .says ∙ ap (λ (i : ℕ). says code (i + 1) 0) (first-unique _ _ (p .first) (q .first)) ∙ sym (q .says);
-      not-done = λ a p e. h (rw (p .says) at e);
+      not-done = refuses-row-avoids h;
     }
 
 pub refuses-pair-is-check : {code n : ℕ} {Fault : ℕ → ℕ → Type 0} → (code ≡ done → ⊥) → IsCheck (RefusesPair code n Fault)
@@ -138,7 +157,7 @@ refuses-pair-is-check h =
       one = λ a b p q.
           let same : (p .row ≡ q .row) × (p .partner ≡ q .partner) = first-pair-unique _ _ _ _ (p .first) (q .first) in
           p .says ∙ rw (same .0, same .1) (sym (q .says));
-      not-done = λ a p e. h (rw (p .says) at e);
+      not-done = refuses-pair-avoids h;
     }
 
 module _ {Check : Answer → Type 0} where
@@ -153,7 +172,7 @@ module _ {Check : Answer → Type 0} where
   -- the answer of a check that refused is the answer of the whole
   pub then-refused : {Next : Answer → Type 0} (a : Answer) → (Check then Passed) a → (a .code ≡ done → ⊥) → (Check then Next) a
   then-refused a (stops p) h = stops p
-  then-refused a (goes-on n p) h = absurd (h (ap (λ (x : Answer). x .code) p))
+  then-refused a (goes-on n p) h = absurd (h (code-of p))
 
   -- after a check that passed, what comes next answers
   pub then-passed : {Next : Answer → Type 0} → IsCheck Check → (a b : Answer) → (Check then Passed) a → a .code ≡ done → Next b
@@ -172,13 +191,16 @@ module _ {Check : Answer → Type 0} where
   then-next clear a (stops p) = absurd (clear a p)
   then-next clear a (goes-on n p) = p
 
+  -- an answer of `done` comes from what follows the check
+  pub then-done : {Next : Answer → Type 0} → IsCheck Check → (a : Answer) → (Check then Next) a → a .code ≡ done → Next a
+  then-done k a p e = then-next (passed-clear k a p e) a p
+
+  pub then-avoids : {code : ℕ} {Next : Answer → Type 0} → Avoids code Check → Avoids code Next → Avoids code (Check then Next)
+  then-avoids f g a (stops p) = f a p
+  then-avoids f g a (goes-on n p) = g a p
+
   pub then-is-check : {Next : Answer → Type 0} → IsCheck Check → IsCheck Next → IsCheck (Check then Next)
-  then-is-check {Next} k l =
-      record { one = then-unique k (l .one); not-done = not-done-of }
-    where
-      not-done-of : (a : Answer) → (Check then Next) a → a .code ≡ done → ⊥
-      not-done-of a (stops p) e = k .not-done a p e
-      not-done-of a (goes-on n p) e = l .not-done a p e
+  then-is-check k l = record { one = then-unique k (l .one); not-done = then-avoids (k .not-done) (l .not-done) }
 
   -- two checks that have nothing to refuse have nothing together
   pub then-clear : {Next : Answer → Type 0} → ((b : Answer) → Check b → ⊥) → ((b : Answer) → Next b → ⊥) → (b : Answer)

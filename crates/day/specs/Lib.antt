@@ -11,4 +11,5 @@ pub mod Answer
 pub mod Refusal
 pub mod Check
 pub mod Zero
+pub mod Planned
 pub mod FirstFilled

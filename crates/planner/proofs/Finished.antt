@@ -32,10 +32,10 @@ use Rattle.engine.proofs.Places.{place-below, need-more}
 use Rattle.planner.specs.Table.{need}
 use Rattle.planner.specs.Jobs.{none, by-number, slots-of, Prepared, ProblemOf, Given, Asks}
 use Rattle.planner.specs.Finished.{Tabled, Laid, whole-value, Finished}
-use Rattle.planner.specs.Promise.{costs, none-proper, Planned, Never}
+use Rattle.day.specs.Planned.{costs, none-proper, Planned, Never}
 use Rattle.planner.proofs.Table.{need-square}
 use Rattle.planner.proofs.Jobs.{far-price-bounded}
-use Rattle.planner.proofs.Promise.{never-clear}
+use Rattle.day.proofs.Planned.{never-clear}
 
 -- n jobs, lent to the engine
 module _ {day : Day} {G : Lent} {n : ℕ} (given : Given day G n) (old : List ℕ) (long : need (day .slots) n ≤ length old) where

@@ -9,7 +9,8 @@ use Rattle.day.proofs.Refusal.{then-refused, passed-clear}
 use Rattle.planner.specs.Table.{need}
 use Rattle.planner.specs.Promise.{PlanCheck}
 use borrow.Author.Needs.{needs}
-use Rattle.planner.proofs.Promise.{planned-refused, planned-checked, check-not-no-plan, plan-is-check, list-accepted, enough-starts, enough-table}
+use Rattle.day.proofs.Planned.{planned-refused, planned-checked}
+use Rattle.planner.proofs.Promise.{check-not-no-plan, plan-is-check, list-accepted, enough-starts, enough-table}
 use Rattle.planner.proofs.plan.Statement.{statement}
 use Rattle.planner.proofs.plan.Tie as tie
 
