@@ -8,8 +8,7 @@ use Rattle.day.specs.declared.Day.{Day}
 use Rattle.day.specs.Windows.{Windows}
 use Rattle.day.specs.Answer.{says, done}
 use Rattle.day.specs.Refusal.{_then_, stops, goes-on}
-use Rattle.day.proofs.Refusal.{IsCheck, refuses-is-check}
-use Rattle.day.proofs.Check.{list-is-check}
+use Rattle.day.proofs.Refusal.{IsCheck, refuses-is-check, then-done}
 use Rattle.day.proofs.Cases.{give, on-eq}
 use Rattle.claim.specs.Claim.{Fit, plan-cost, PricedStarts}
 use Rattle.claim.specs.Choice.{
@@ -72,11 +71,9 @@ module _ (day : Day) (w : Windows) (own server : List ℕ) where
       })
 
 -- an answer of 0 names the winner
-pub chosen-named : {day : Day} {w : Windows} {own server : List ℕ} (a : Answer) → Chosen day w own server a → a .code ≡ done
-    → NamesWinner day w own server a
-chosen-named a (stops p) e = absurd (list-is-check .not-done a p e)
-chosen-named {day} {w} {own} {server} a (goes-on _ (stops p)) e = absurd (neither-is-check w own server .not-done a p e)
-chosen-named a (goes-on _ (goes-on _ n)) e = n
+pub chosen-named : {Check : Answer → Type 0} {day : Day} {w : Windows} {own server : List ℕ} → IsCheck Check → (a : Answer)
+    → Chosen Check day w own server a → a .code ≡ done → NamesWinner day w own server a
+chosen-named {w = w} {own} {server} check a p e = then-done (neither-is-check w own server) a (then-done check a p e) e
 
 -- of an answer that names the winner, what its first number says
 pub named-own : {day : Day} {w : Windows} {own server : List ℕ} (a : Answer) → NamesWinner day w own server a → a .first ≡ own-plan

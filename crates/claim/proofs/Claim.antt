@@ -10,12 +10,12 @@ use Rattle.day.specs.declared.Day.{Day}
 use Rattle.day.specs.Windows.{Windows, at}
 use Rattle.day.specs.Plan.{MayStart}
 use Rattle.day.specs.Answer.{done, few-starts, outside-window, same-start}
-use Rattle.day.specs.Refusal.{_then_, stops, goes-on, Passed}
+use Rattle.day.specs.Refusal.{_then_, goes-on, Passed}
 use Rattle.day.specs.Check.{most-slots, GoodRows, Accepted, ListCheck}
 use Rattle.day.proofs.Cases.{on-le, on-eq}
-use Rattle.day.proofs.Refusal.{IsCheck, refuses-is-check, refuses-row-is-check, refuses-pair-is-check, then-is-check, then-passed, then-clear, then-next, passed-clear, clear-first, clear-next, no-fault, no-row-at-fault, no-pair-at-fault}
+use Rattle.day.proofs.Refusal.{IsCheck, refuses-is-check, refuses-row-is-check, refuses-pair-is-check, code-of, then-is-check, then-done, then-clear, then-next, passed-clear, clear-first, clear-next, no-fault, no-row-at-fault, no-pair-at-fault}
 use Rattle.day.proofs.Check.{list-is-check, clear-accepted}
-use Rattle.day.proofs.Decided.{Known, Decided, above-known, then-decided, refuses-decided, refuses-row-decided, refuses-pair-decided, list-decided}
+use Rattle.day.proofs.Decided.{Known, Decided, above-known, then-decided, refuses-decided, refuses-row-decided, refuses-pair-decided}
 use Rattle.claim.specs.Claim.{Fit, Outside, Together, LengthCheck, WindowsCheck, ApartCheck, StartsCheck, ClaimCheck, plan-cost, PricedStarts}
 use Rattle.claim.specs.declared.Claimed.{Claimed}
 use Rattle.claim.specs.Rows.{Placed, Judged}
@@ -34,8 +34,8 @@ pub starts-is-check : (w : Windows) (starts : List ℕ) → IsCheck (StartsCheck
 starts-is-check w starts =
     then-is-check (length-is-check w starts) (then-is-check (windows-is-check w starts) (apart-is-check (w .count) starts))
 
-pub claim-is-check : (day : Day) (w : Windows) (starts : List ℕ) → IsCheck (ClaimCheck day w starts)
-claim-is-check day w starts = then-is-check list-is-check (starts-is-check w starts)
+pub claim-is-check : {Check : Answer → Type 0} → IsCheck Check → (w : Windows) (starts : List ℕ) → IsCheck (ClaimCheck Check w starts)
+claim-is-check check w starts = then-is-check check (starts-is-check w starts)
 
 may-start-known : (w : Windows) (i t : ℕ) → Known (MayStart w i t)
 may-start-known w i t =
@@ -49,9 +49,9 @@ outside-known w starts i = ⊎-elim (λ m. inr (λ out. out m)) (λ out. inl out
 together-known : (starts : List ℕ) (i j : ℕ) → Known (Together starts i j)
 together-known starts i j = on-eq (at starts i) (at starts j) (λ e. inl e) (λ e. inr e)
 
-pub claim-decided : (day : Day) (w : Windows) (starts : List ℕ) → Decided (ClaimCheck day w starts)
-claim-decided day w starts =
-    then-decided (list-decided day w)
+pub claim-decided : {Check : Answer → Type 0} → Decided Check → (w : Windows) (starts : List ℕ) → Decided (ClaimCheck Check w starts)
+claim-decided check w starts =
+    then-decided check
     (then-decided (refuses-decided few-starts (above-known (length starts) (w .count)))
     (then-decided (refuses-row-decided outside-window (w .count) (outside-known w starts))
     (refuses-pair-decided same-start (w .count) (together-known starts))))
@@ -109,33 +109,32 @@ passed-accepted a p e = clear-accepted (passed-clear list-is-check a p e)
 -- pricing answers 0 exactly for a fit plan, and then with its cost
 pub priced-fit : (day : Day) (w : Windows) (starts : List ℕ) (a : Answer) → PricedStarts day w starts a → a .code ≡ done
     → Fit w starts × (a .first ≡ plan-cost day w starts)
-priced-fit day w starts a (stops p) e = absurd (starts-is-check w starts .not-done a p e)
-priced-fit day w starts a (goes-on clear p) e = (clear-fit w starts clear, ap (λ (x : Answer). x .first) p)
+priced-fit day w starts a p e = (
+  clear-fit w starts (passed-clear (starts-is-check w starts) a p e),
+  ap (λ (x : Answer). x .first) (then-done (starts-is-check w starts) a p e),
+)
 
 pub priced-unfit : (day : Day) (w : Windows) (starts : List ℕ) (a : Answer) → PricedStarts day w starts a
     → (a .code ≡ done → ⊥) → Fit w starts → ⊥
-priced-unfit day w starts a (stops p) e fit = fit-clear w starts fit a p
-priced-unfit day w starts a (goes-on clear p) e fit = e (ap (λ (x : Answer). x .code) p)
+priced-unfit day w starts a p e fit = e (code-of (then-next (fit-clear w starts fit) a p))
 
--- after a plan that was judged and not refused, what comes next answers
-pub placed-next : {w : Windows} {starts : List ℕ} {claimed : Claimed} {Next : Answer → Type 0} → Placed w starts claimed
-    → claimed .answer .code ≡ done → (a : Answer) → Next a → (StartsCheck w starts then Next) a
-placed-next {w} {starts} {claimed} p e a = then-passed (starts-is-check w starts) (claimed .answer) a (p .answer) e
+module _ {Check : Answer → Type 0} {w : Windows} {starts : List ℕ} {claimed : Claimed} (check : IsCheck Check)
+    (p : Judged Check w starts claimed) (e : claimed .answer .code ≡ done) where
+  judged-clear : (b : Answer) → ClaimCheck Check w starts b → ⊥
+  judged-clear = passed-clear (claim-is-check check w starts) (claimed .answer) (p .answer) e
 
-module _ {day : Day} {w : Windows} {starts : List ℕ} {claimed : Claimed} (p : Judged day w starts claimed)
-    (e : claimed .answer .code ≡ done) where
-  judged-clear : (b : Answer) → ClaimCheck day w starts b → ⊥
-  judged-clear = passed-clear (claim-is-check day w starts) (claimed .answer) (p .answer) e
-
-  pub judged-next : {Next : Answer → Type 0} (a : Answer) → Next a → (ClaimCheck day w starts then Next) a
+  -- after a plan that was judged and not refused, what comes next answers
+  pub judged-next : {Next : Answer → Type 0} (a : Answer) → Next a → (ClaimCheck Check w starts then Next) a
   judged-next a = goes-on judged-clear
 
   pub judged-says : Passed (claimed .answer)
   judged-says = then-next judged-clear (claimed .answer) (p .answer)
 
+-- by codes 1 to 4 the day's slots are a part of the rows
+module _ {day : Day} {w : Windows} {starts : List ℕ} {claimed : Claimed} (p : Judged (ListCheck day w) w starts claimed)
+    (e : claimed .answer .code ≡ done) where
   pub judged-slots : day .slots ≤ most-slots
-  judged-slots = clear-accepted (clear-first judged-clear) .slots
+  judged-slots = clear-accepted (clear-first (judged-clear list-is-check p e)) .slots
 
-  -- the day's slots are a part of the rows
   pub judged-cut : (slots : ℕ) → slots ≡ day .slots → Cut (claimed .rows) slots
   judged-cut slots here = rows-cut (p .rows .accepted e) slots (omega (arith, judged-slots))

@@ -12,8 +12,7 @@ use Rattle.day.specs.Windows.{Windows}
 use Rattle.day.specs.Plan.{Plan}
 use Rattle.day.specs.Answer.{says, done}
 use Rattle.day.proofs.Cases.{on-eq, on-le}
-use Rattle.day.proofs.Refusal.{then-unique}
-use Rattle.day.proofs.Check.{list-is-check}
+use Rattle.day.proofs.Refusal.{IsCheck, code-of, then-unique}
 use Rattle.claim.specs.declared.Claimed.{Claimed}
 use Rattle.claim.specs.Claim.{Priced}
 use Rattle.claim.specs.Rows.{RowsBySlot, NextJob, Judged}
@@ -33,20 +32,21 @@ use Rattle.claim.specs.Choice.{
 use Rattle.claim.proofs.Claim.{claim-is-check}
 use Rattle.claim.proofs.Choice.{neither-is-check}
 
-pub priced-unique : (day : Day) (w : Windows) (starts : List ℕ) (a b : Answer) → Priced day w starts a → Priced day w starts b → a ≡ b
-priced-unique day w starts = then-unique (claim-is-check day w starts) (λ a b p q. p ∙ sym q)
+pub priced-unique : {Check : Answer → Type 0} → IsCheck Check → (day : Day) (w : Windows) (starts : List ℕ) (a b : Answer)
+    → Priced Check day w starts a → Priced Check day w starts b → a ≡ b
+priced-unique check day w starts = then-unique (claim-is-check check w starts) (λ a b p q. p ∙ sym q)
 
 rows-unique : {n : ℕ} {start : Plan} {rows others : List ℕ} → RowsBySlot n start rows → RowsBySlot n start others → rows ≡ others
 rows-unique {n} {start} {rows} {others} p q =
     ext-getD 0 rows others (p .long ∙ sym (q .long))
     (λ t h. p .each t (omega (arith, p .long)) ∙ sym (q .each t (omega (arith, p .long))))
 
-pub judged-unique : (day : Day) (w : Windows) (starts : List ℕ) (c d : Claimed) → Judged day w starts c
-    → Judged day w starts d → c ≡ d
-judged-unique day w starts c d p q = rw (same-answer, same-rows)
+pub judged-unique : {Check : Answer → Type 0} → IsCheck Check → (w : Windows) (starts : List ℕ) (c d : Claimed)
+    → Judged Check w starts c → Judged Check w starts d → c ≡ d
+judged-unique check w starts c d p q = rw (same-answer, same-rows)
   where
     same-answer : c .answer ≡ d .answer
-    same-answer = then-unique (claim-is-check day w starts) (λ a b e f. e ∙ sym f) (c .answer) (d .answer) (p .answer) (q .answer)
+    same-answer = then-unique (claim-is-check check w starts) (λ a b e f. e ∙ sym f) (c .answer) (d .answer) (p .answer) (q .answer)
 
     same-rows : c .rows ≡ d .rows
     same-rows =
@@ -69,18 +69,17 @@ wins-unique (own-wins f g) (server-wins h i) = absurd (omega (arith, g h, i f))
 wins-unique (server-wins f g) (own-wins h i) = absurd (omega (arith, g h, i f))
 wins-unique (server-wins f g) (server-wins h i) = refl
 
-pub chosen-unique : (day : Day) (w : Windows) (own server : List ℕ) (a b : Answer) → Chosen day w own server a → Chosen day w own server b
-    → a ≡ b
-chosen-unique day w own server =
-    then-unique list-is-check
-    (then-unique (neither-is-check w own server)
-    (λ a b p q. p .says ∙ ap (λ (k : ℕ). says done k 0) (wins-unique (p .wins) (q .wins)) ∙ sym (q .says)))
+module _ {Check : Answer → Type 0} (check : IsCheck Check) (day : Day) (w : Windows) where
+  pub chosen-unique : (own server : List ℕ) (a b : Answer) → Chosen Check day w own server a → Chosen Check day w own server b → a ≡ b
+  chosen-unique own server =
+      then-unique check
+      (then-unique (neither-is-check w own server)
+      (λ a b p q. p .says ∙ ap (λ (k : ℕ). says done k 0) (wins-unique (p .wins) (q .wins)) ∙ sym (q .says)))
 
--- the part handed back is the one for what the companion answers
-pub handed-agrees : (day : Day) (w : Windows) (own server part : RefT (List ℕ)) (a : Answer) → HandedBack day w own server part
-    → Chosen day w (now own) (now server) a → PartFor (w .count) own server part a
-handed-agrees day w own server part a h chosen =
-    rw (chosen-unique day w (now own) (now server) a (h .answer) chosen (h .chosen)) (h .handed)
+  -- the part handed back is the one for what the companion answers
+  pub handed-agrees : (own server part : RefT (List ℕ)) (a : Answer) → HandedBack Check day w own server part
+      → Chosen Check day w (now own) (now server) a → PartFor (w .count) own server part a
+  handed-agrees own server part a h chosen = rw (chosen-unique (now own) (now server) a (h .answer) chosen (h .chosen)) (h .handed)
 
 start-unique : {plan part other : RefT (List ℕ)} {n : ℕ} → StartOf plan n part → StartOf plan n other → SamePart part other
 start-unique p q = record { begins = p .begins ∙ sym (q .begins); holds = p .holds ∙ sym (q .holds) }
@@ -88,16 +87,16 @@ start-unique p q = record { begins = p .begins ∙ sym (q .begins); holds = p .h
 part-unique : {n : ℕ} {own server part other : RefT (List ℕ)} {a : Answer} → PartFor n own server part a → PartFor n own server other a
     → SamePart part other
 part-unique (refused e p) (refused f q) = start-unique p q
-part-unique (refused e p) (of-own f q) = absurd (e (ap (λ (x : Answer). x .code) f))
-part-unique (refused e p) (of-server f q) = absurd (e (ap (λ (x : Answer). x .code) f))
-part-unique (of-own e p) (refused f q) = absurd (f (ap (λ (x : Answer). x .code) e))
+part-unique (refused e p) (of-own f q) = absurd (e (code-of f))
+part-unique (refused e p) (of-server f q) = absurd (e (code-of f))
+part-unique (of-own e p) (refused f q) = absurd (f (code-of e))
 part-unique (of-own e p) (of-own f q) = start-unique p q
 part-unique (of-own e p) (of-server f q) = absurd (omega (arith, ap (λ (x : Answer). x .first) (sym e ∙ f)))
-part-unique (of-server e p) (refused f q) = absurd (f (ap (λ (x : Answer). x .code) e))
+part-unique (of-server e p) (refused f q) = absurd (f (code-of e))
 part-unique (of-server e p) (of-own f q) = absurd (omega (arith, ap (λ (x : Answer). x .first) (sym e ∙ f)))
 part-unique (of-server e p) (of-server f q) = start-unique p q
 
-pub handed-unique : (day : Day) (w : Windows) (own server part other : RefT (List ℕ)) → HandedBack day w own server part
-    → HandedBack day w own server other → SamePart part other
-handed-unique day w own server part other p q =
-    part-unique (p .handed) (handed-agrees day w own server other (p .answer) q (p .chosen))
+pub handed-unique : {Check : Answer → Type 0} → IsCheck Check → (day : Day) (w : Windows) (own server part other : RefT (List ℕ))
+    → HandedBack Check day w own server part → HandedBack Check day w own server other → SamePart part other
+handed-unique check day w own server part other p q =
+    part-unique (p .handed) (handed-agrees check day w own server other (p .answer) q (p .chosen))

@@ -33,9 +33,13 @@ pub record NamesWinner (day : Day) (w : Windows) (own server : List ℕ) (a : An
 abbrev pub NeitherCheck : Windows → List ℕ → List ℕ → Answer → Type 0
 NeitherCheck w own server = Refuses neither-proper ((Fit w own → ⊥) × (Fit w server → ⊥))
 
--- what the companion answers
-abbrev pub Chosen : Day → Windows → List ℕ → List ℕ → Answer → Type 0
-Chosen day w own server = ListCheck day w then NeitherCheck w own server then NamesWinner day w own server
+-- what the companion answers, for any check of the list
+abbrev pub Chosen : (Answer → Type 0) → Day → Windows → List ℕ → List ℕ → Answer → Type 0
+Chosen Check day w own server = Check then NeitherCheck w own server then NamesWinner day w own server
+
+-- what `which` promises: codes 1 to 4 for the list
+abbrev pub ChoicePromise : Day → Windows → List ℕ → List ℕ → Answer → Type 0
+ChoicePromise day w = Chosen (ListCheck day w) day w
 
 -- the companion's answer, from the answers of pricing the two plans
 pub data Compared (own server a : Answer) : Type 0 where
@@ -56,10 +60,14 @@ pub data PartFor (n : ℕ) (own server part : RefT (List ℕ)) (a : Answer) : Ty
   of-server : a ≡ says done server-plan 0 → StartOf server n part → PartFor n own server part a
 
 -- what the choice hands back: the part for what the companion answers
-pub record HandedBack (day : Day) (w : Windows) (own server part : RefT (List ℕ)) : Type 0 where
+pub record HandedBack (Check : Answer → Type 0) (day : Day) (w : Windows) (own server part : RefT (List ℕ)) : Type 0 where
   pub answer : Answer
-  pub chosen : Chosen day w (now own) (now server) answer
+  pub chosen : Chosen Check day w (now own) (now server) answer
   pub handed : PartFor (w .count) own server part answer
+
+-- what `choose` promises
+abbrev pub PartPromise : Day → Windows → RefT (List ℕ) → RefT (List ℕ) → RefT (List ℕ) → Type 0
+PartPromise day w = HandedBack (ListCheck day w) day w
 
 -- two parts that begin at the same place and hold the same starts
 pub record SamePart (part other : RefT (List ℕ)) : Type 0 where

@@ -39,9 +39,9 @@ ApartCheck n starts = RefusesPair same-start n (Together starts)
 abbrev pub StartsCheck : Windows → List ℕ → Answer → Type 0
 StartsCheck w starts = LengthCheck w starts then WindowsCheck w starts then ApartCheck (w .count) starts
 
--- how pricing, ledger and slot record judge a claimed plan: codes 1 to 5, 14 over all rows, then 15
-abbrev pub ClaimCheck : Day → Windows → List ℕ → Answer → Type 0
-ClaimCheck day w starts = ListCheck day w then StartsCheck w starts
+-- how pricing, ledger and slot record judge a claimed plan: what they check of the list, 5, 14 over all rows, then 15
+abbrev pub ClaimCheck : (Answer → Type 0) → Windows → List ℕ → Answer → Type 0
+ClaimCheck Check w starts = Check then StartsCheck w starts
 
 -- what the plan of the first n starts costs
 abbrev pub plan-cost : Day → Windows → List ℕ → ℕ
@@ -51,10 +51,14 @@ plan-cost day w starts = cost day (w .count) (at starts)
 abbrev pub Costs : Day → Windows → List ℕ → Answer → Type 0
 Costs day w starts a = a ≡ says done (plan-cost day w starts) 0
 
--- what pricing the starts answers for a list that has passed codes 1 to 4
+-- what pricing the starts answers for a list that is not refused
 abbrev pub PricedStarts : Day → Windows → List ℕ → Answer → Type 0
 PricedStarts day w starts = StartsCheck w starts then Costs day w starts
 
--- what pricing a claimed plan answers
-abbrev pub Priced : Day → Windows → List ℕ → Answer → Type 0
-Priced day w starts = ClaimCheck day w starts then Costs day w starts
+-- what pricing a claimed plan answers, for any check of the list
+abbrev pub Priced : (Answer → Type 0) → Day → Windows → List ℕ → Answer → Type 0
+Priced Check day w starts = ClaimCheck Check w starts then Costs day w starts
+
+-- what `price` promises: codes 1 to 4 for the list
+abbrev pub PricePromise : Day → Windows → List ℕ → Answer → Type 0
+PricePromise day w = Priced (ListCheck day w) day w

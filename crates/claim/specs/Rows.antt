@@ -5,7 +5,7 @@ use mathlib.Core.Bool.{Bool, true, cond, not}
 use mathlib.Core.List.{List}
 use lib.Dec.{eqb}
 use lib.ListN.{length}
-use Rattle.day.specs.declared.Day.{Day}
+use Rattle.day.specs.declared.Answer.{Answer}
 use Rattle.day.specs.declared.Power.{Power}
 use Rattle.day.specs.Windows.{Windows, at}
 use Rattle.day.specs.Plan.{Plan}
@@ -49,12 +49,12 @@ pub record RowsBeside (w : Windows) (starts : List ℕ) (claimed : Claimed) : Ty
   pub accepted : claimed .answer .code ≡ done → RowsBySlot (w .count) (at starts) (claimed .rows)
   pub refused : (claimed .answer .code ≡ done → ⊥) → RowsBySlot 0 (at starts) (claimed .rows)
 
--- the starts of a claimed plan, judged for a list that has passed codes 1 to 4
+-- the starts of a claimed plan, judged for a list that is not refused
 pub record Placed (w : Windows) (starts : List ℕ) (claimed : Claimed) : Type 0 where
   pub answer : (StartsCheck w starts then Passed) (claimed .answer)
   pub rows : RowsBeside w starts claimed
 
--- a claimed plan, judged
-pub record Judged (day : Day) (w : Windows) (starts : List ℕ) (claimed : Claimed) : Type 0 where
-  pub answer : (ClaimCheck day w starts then Passed) (claimed .answer)
+-- a claimed plan, judged, for any check of the list
+pub record Judged (Check : Answer → Type 0) (w : Windows) (starts : List ℕ) (claimed : Claimed) : Type 0 where
+  pub answer : (ClaimCheck Check w starts then Passed) (claimed .answer)
   pub rows : RowsBeside w starts claimed

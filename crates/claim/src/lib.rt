@@ -5,10 +5,10 @@ pub mod slots;
 ghost use mathlib.Core.Path.{_≡_};
 ghost use Rattle.day.specs.Windows.{windows};
 ghost use Rattle.day.specs.Answer.{says, done};
-ghost use Rattle.day.specs.Check.{most-jobs, most-slots, GoodRows, Accepted};
-ghost use Rattle.claim.specs.Claim.{PricedStarts, Priced};
+ghost use Rattle.day.specs.Check.{most-jobs, most-slots, ListCheck, GoodRows, Accepted};
+ghost use Rattle.claim.specs.Claim.{PricedStarts, PricePromise};
 ghost use Rattle.claim.specs.Rows.{Placed, Judged};
-ghost use Rattle.claim.specs.Choice.{Compared, Chosen, HandedBack};
+ghost use Rattle.claim.specs.Choice.{Compared, ChoicePromise, PartPromise};
 use day::Answer;
 use day::Day;
 use day::code;
@@ -40,7 +40,7 @@ fn place(releases: &[u16], deadlines: &[u16], starts: &[u16]) -> Claimed
 
 // Judges a claimed plan as pricing, ledger and slot record do: codes 1 to 5, 14 over all rows, then 15.
 pub fn judge(day: Day, releases: &[u16], deadlines: &[u16], starts: &[u16]) -> Claimed
-    ensures { λ c. ⌜ Judged day (windows (now (releases .entry)) (now (deadlines .entry))) (now (starts .entry)) c ⌝ }
+    ensures { λ c. ⌜ Judged (ListCheck day (windows (now (releases .entry)) (now (deadlines .entry)))) (windows (now (releases .entry)) (now (deadlines .entry))) (now (starts .entry)) c ⌝ }
 {
     let answer = day::check_list(day, releases, deadlines);
     if answer.code != code::DONE {
@@ -78,7 +78,7 @@ fn price_starts(day: Day, releases: &[u16], deadlines: &[u16], starts: &[u16]) -
 
 // Prices a claimed plan.
 pub fn price(day: Day, releases: &[u16], deadlines: &[u16], starts: &[u16]) -> Answer
-    ensures { λ a. ⌜ Priced day (windows (now (releases .entry)) (now (deadlines .entry))) (now (starts .entry)) a ⌝ }
+    ensures { λ a. ⌜ PricePromise day (windows (now (releases .entry)) (now (deadlines .entry))) (now (starts .entry)) a ⌝ }
 {
     let listed = day::check_list(day, releases, deadlines);
     if listed.code != code::DONE {
@@ -108,7 +108,7 @@ fn cheaper(own: Answer, server: Answer) -> Answer
 
 // Which of two claimed plans for one list wins: as first number 1, the notebook's own, or 2, the server's.
 pub fn which(day: Day, releases: &[u16], deadlines: &[u16], own: &[u16], server: &[u16]) -> Answer
-    ensures { λ a. ⌜ Chosen day (windows (now (releases .entry)) (now (deadlines .entry))) (now (own .entry)) (now (server .entry)) a ⌝ }
+    ensures { λ a. ⌜ ChoicePromise day (windows (now (releases .entry)) (now (deadlines .entry))) (now (own .entry)) (now (server .entry)) a ⌝ }
 {
     let listed = day::check_list(day, releases, deadlines);
     if listed.code != code::DONE {
@@ -127,7 +127,7 @@ pub fn choose<'a>(
     own: &'a [u16],
     server: &'a [u16],
 ) -> &'a [u16]
-    ensures { λ part. ⌜ HandedBack day (windows (now (releases .entry)) (now (deadlines .entry))) (own .entry) (server .entry) part ⌝ }
+    ensures { λ part. ⌜ PartPromise day (windows (now (releases .entry)) (now (deadlines .entry))) (own .entry) (server .entry) part ⌝ }
 {
     let count = releases.len();
     let answer = which(day, releases, deadlines, own, server);

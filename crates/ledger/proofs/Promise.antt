@@ -8,10 +8,10 @@ use Rattle.day.specs.declared.Day.{Day}
 use Rattle.day.specs.declared.Power.{Power}
 use Rattle.day.specs.Windows.{Windows, at}
 use Rattle.day.specs.Answer.{done}
-use Rattle.day.specs.Refusal.{_then_, stops, goes-on, Passed}
+use Rattle.day.specs.Refusal.{_then_, Passed}
 use Rattle.day.proofs.Cases.{give, on-eq, on-le}
-use Rattle.day.proofs.Refusal.{IsCheck, refuses-is-check, then-unique, passed-clear, no-fault}
-use Rattle.claim.specs.Claim.{Fit, ClaimCheck}
+use Rattle.day.proofs.Refusal.{IsCheck, refuses-is-check, then-unique, then-done, passed-clear, no-fault}
+use Rattle.claim.specs.Claim.{Fit}
 use Rattle.claim.proofs.Claim.{claim-is-check}
 use Rattle.claim.proofs.Rows.{row-at-own}
 use Rattle.ledger.specs.declared.Fill.the-variants.{Job}
@@ -34,12 +34,12 @@ counted-unique p q =
       count-unique (p .after) (q .after),
     )
 
-pub ledgered-unique : (day : Day) (w : Windows) (starts : List ℕ) (a b : LedgerAnswer) → Ledgered day w starts a → Ledgered day w starts b
-    → a ≡ b
-ledgered-unique day w starts a b p q = rw (same-answer, same-counts)
+pub ledgered-unique : {Check : Answer → Type 0} → IsCheck Check → (day : Day) (w : Windows) (starts : List ℕ) (a b : LedgerAnswer)
+    → Ledgered Check day w starts a → Ledgered Check day w starts b → a ≡ b
+ledgered-unique check day w starts a b p q = rw (same-answer, same-counts)
   where
     same-answer : a .answer ≡ b .answer
-    same-answer = then-unique (claim-is-check day w starts) (λ x y e f. e ∙ sym f) (a .answer) (b .answer) (p .answer) (q .answer)
+    same-answer = then-unique (claim-is-check check w starts) (λ x y e f. e ∙ sym f) (a .answer) (b .answer) (p .answer) (q .answer)
 
     same-counts : a .counts ≡ b .counts
     same-counts =
@@ -51,28 +51,27 @@ asked-is-check : (day : Day) (asked : ℕ) → IsCheck (AskedCheck day asked)
 asked-is-check day asked = refuses-is-check (λ e. omega arith)
 
 -- a slot that is shown is a slot of the day
-shown-within : (day : Day) (w : Windows) (starts : List ℕ) (asked : ℕ) (a : Answer)
-    → (ClaimCheck day w starts then AskedCheck day asked then Passed) a → a .code ≡ done → asked < day .slots
-shown-within day w starts asked a (stops p) e = absurd (claim-is-check day w starts .not-done a p e)
-shown-within day w starts asked a (goes-on _ p) e =
-    on-le (day .slots) asked (λ h. absurd (no-fault (passed-clear (asked-is-check day asked) a p e) h)) (λ h. h)
+shown-within : {Check : Answer → Type 0} → IsCheck Check → (day : Day) (asked : ℕ) (a : Answer)
+    → (Check then AskedCheck day asked then Passed) a → a .code ≡ done → asked < day .slots
+shown-within check day asked a p e =
+    on-le (day .slots) asked (λ h. absurd (no-fault (passed-clear (asked-is-check day asked) a (then-done check a p e) e) h)) (λ h. h)
 
-pub shown-unique : (day : Day) (w : Windows) (starts : List ℕ) (asked : ℕ) (a b : SlotAnswer) → SlotShown day w starts asked a
-    → SlotShown day w starts asked b → a ≡ b
-shown-unique day w starts asked a b p q =
+pub shown-unique : {Check : Answer → Type 0} → IsCheck Check → (day : Day) (w : Windows) (starts : List ℕ) (asked : ℕ) (a b : SlotAnswer)
+    → SlotShown Check day w starts asked a → SlotShown Check day w starts asked b → a ≡ b
+shown-unique check day w starts asked a b p q =
     on-eq (a .answer .code) done
     (λ e.
     let f : b .answer .code ≡ done = rw same-answer at e in
     rw (
       same-answer,
       p .slot e ∙ sym (q .slot f),
-      fills-unique (shown-within day w starts asked (a .answer) (p .answer) e) (p .fill e) (q .fill f),
+      fills-unique (shown-within (claim-is-check check w starts) day asked (a .answer) (p .answer) e) (p .fill e) (q .fill f),
     ))
     (λ e. rw (same-answer, p .refused e ∙ sym (q .refused (rw same-answer at e))))
   where
     same-answer : a .answer ≡ b .answer
     same-answer =
-        then-unique (claim-is-check day w starts) (then-unique (asked-is-check day asked) (λ x y e f. e ∙ sym f)) (a .answer)
+        then-unique (claim-is-check check w starts) (then-unique (asked-is-check day asked) (λ x y e f. e ∙ sym f)) (a .answer)
         (b .answer) (p .answer) (q .answer)
 
 -- a row of a fit plan fills the slot in which it starts

@@ -7,6 +7,7 @@ use Rattle.day.specs.declared.Day.{Day}
 use Rattle.day.specs.Windows.{Windows, at}
 use Rattle.day.specs.Answer.{done, no-such-slot}
 use Rattle.day.specs.Refusal.{_then_, Passed, Refuses}
+use Rattle.day.specs.Check.{ListCheck}
 use Rattle.claim.specs.Claim.{ClaimCheck}
 use Rattle.claim.specs.Rows.{row-at}
 use Rattle.ledger.specs.declared.Fill.the-variants.{Before}
@@ -24,11 +25,15 @@ plan-row w starts = row-at (w .count) (at starts)
 abbrev pub no-counts : Counts
 no-counts = record { before = 0; job = 0; awake = 0; asleep = 0; after = 0 }
 
--- the ledger: refused as pricing, or the five counts of the plan
-pub record Ledgered (day : Day) (w : Windows) (starts : List ℕ) (answered : LedgerAnswer) : Type 0 where
-  pub answer : (ClaimCheck day w starts then Passed) (answered .answer)
+-- the ledger, for any check of the list: refused as pricing, or the five counts of the plan
+pub record Ledgered (Check : Answer → Type 0) (day : Day) (w : Windows) (starts : List ℕ) (answered : LedgerAnswer) : Type 0 where
+  pub answer : (ClaimCheck Check w starts then Passed) (answered .answer)
   pub accepted : answered .answer .code ≡ done → Counted (day .power) (day .slots) (plan-row w starts) (answered .counts)
   pub refused : (answered .answer .code ≡ done → ⊥) → answered .counts ≡ no-counts
+
+-- what `ledger` promises: codes 1 to 4 for the list
+abbrev pub LedgerPromise : Day → Windows → List ℕ → LedgerAnswer → Type 0
+LedgerPromise day w = Ledgered (ListCheck day w) day w
 
 -- what a refused slot record holds
 abbrev pub no-slot : SlotFill
@@ -38,9 +43,13 @@ no-slot = record { slot = 0; fill = Before }
 abbrev pub AskedCheck : Day → ℕ → Answer → Type 0
 AskedCheck day asked = Refuses no-such-slot (day .slots ≤ asked)
 
--- one slot of a plan: refused as pricing, then by 19, or the slot and what fills it
-pub record SlotShown (day : Day) (w : Windows) (starts : List ℕ) (asked : ℕ) (shown : SlotAnswer) : Type 0 where
-  pub answer : (ClaimCheck day w starts then AskedCheck day asked then Passed) (shown .answer)
+-- one slot of a plan, for any check of the list: refused as pricing, then by 19, or the slot and what fills it
+pub record SlotShown (Check : Answer → Type 0) (day : Day) (w : Windows) (starts : List ℕ) (asked : ℕ) (shown : SlotAnswer) : Type 0 where
+  pub answer : (ClaimCheck Check w starts then AskedCheck day asked then Passed) (shown .answer)
   pub slot : shown .answer .code ≡ done → shown .held .slot ≡ asked
   pub fill : shown .answer .code ≡ done → Fills (day .power) (day .slots) (plan-row w starts) asked (shown .held .fill)
   pub refused : (shown .answer .code ≡ done → ⊥) → shown .held ≡ no-slot
+
+-- what `slot` promises: codes 1 to 4 for the list
+abbrev pub SlotPromise : Day → Windows → List ℕ → ℕ → SlotAnswer → Type 0
+SlotPromise day w = SlotShown (ListCheck day w) day w

@@ -3,7 +3,7 @@ mod walk;
 
 ghost use Rattle.day.specs.Windows.{windows};
 ghost use mathlib.Core.Path.{_≡_};
-ghost use Rattle.ledger.specs.Promise.{no-slot, Ledgered, SlotShown};
+ghost use Rattle.ledger.specs.Promise.{no-slot, LedgerPromise, SlotPromise};
 use day::Answer;
 use day::Day;
 use day::code;
@@ -48,7 +48,7 @@ pub struct LedgerAnswer {
 
 // Counts the slots of a claimed plan by what fills them.
 pub fn ledger(day: Day, releases: &[u16], deadlines: &[u16], starts: &[u16]) -> LedgerAnswer
-    ensures { λ answered. ⌜ Ledgered day (windows (now (releases .entry)) (now (deadlines .entry))) (now (starts .entry)) answered ⌝ }
+    ensures { λ answered. ⌜ LedgerPromise day (windows (now (releases .entry)) (now (deadlines .entry))) (now (starts .entry)) answered ⌝ }
 {
     let claimed = claim::judge(day, releases, deadlines, starts);
     let answer = claimed.answer;
@@ -79,7 +79,7 @@ fn no_slot(answer: Answer) -> SlotAnswer
 
 // What fills one slot of a claimed plan.
 pub fn slot(day: Day, releases: &[u16], deadlines: &[u16], starts: &[u16], slot: u16) -> SlotAnswer
-    ensures { λ shown. ⌜ SlotShown day (windows (now (releases .entry)) (now (deadlines .entry))) (now (starts .entry)) slot shown ⌝ }
+    ensures { λ shown. ⌜ SlotPromise day (windows (now (releases .entry)) (now (deadlines .entry))) (now (starts .entry)) slot shown ⌝ }
 {
     let claimed = claim::judge(day, releases, deadlines, starts);
     let answer = claimed.answer;

@@ -3,6 +3,7 @@ use mathlib.Core.Path.{refl, sym}
 use borrow.Author.Needs.{needs}
 use lib.Seq.{length-take-le}
 use Rattle.day.proofs.Cases.{give}
+use Rattle.day.proofs.Check.{list-is-check}
 use Rattle.day.specs.Windows.{windows}
 use Rattle.claim.specs.Choice.{NamesWinner, refused, of-own, of-server}
 use Rattle.claim.proofs.Choice.{chosen-named, named-own, named-server}
@@ -28,7 +29,7 @@ named : (c : tie.Else1) →
     let start = c .before .before .before .before .before .before .before .args in
     NamesWinner (start .day) (windows (start .releases .now) (start .deadlines .now)) (start .own .now) (start .server .now)
     (c .before .before .which .result)
-named c = chosen-named _ (c .before .before .which .ensures) (c .if1 .left)
+named c = chosen-named list-is-check _ (c .before .before .which .ensures) (c .if1 .left)
 
 slice-aggregate-result-2 : tie.Need-slice-aggregate-result-2
 slice-aggregate-result-2 c =

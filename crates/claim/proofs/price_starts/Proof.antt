@@ -3,9 +3,10 @@ use Prim.Native.Nat.{ℕ}
 use mathlib.Core.Path.{sym, _∙_, ap}
 use native.Mathlib.Omega.{arith}
 use borrow.Author.Needs.{needs}
+use Rattle.day.specs.Windows.{windows}
 use Rattle.day.specs.Answer.{says, done}
-use Rattle.day.proofs.Refusal.{then-refused}
-use Rattle.claim.proofs.Claim.{placed-next, good-rows-within}
+use Rattle.day.proofs.Refusal.{then-refused, then-passed}
+use Rattle.claim.proofs.Claim.{starts-is-check, good-rows-within}
 use Rattle.claim.proofs.Rows.{Cut, rows-cut}
 use Rattle.claim.proofs.Walk.{rows-cost-day}
 use Rattle.claim.proofs.price_starts.Statement.{statement}
@@ -46,7 +47,8 @@ returns-2 c =
     let placed = taken .before .before .before .before .before in
     let start = placed .before .before .before .before in
     let passed = taken .before .before .if1 .left in
-    placed-next (placed .place .ensures) passed _
+    then-passed (starts-is-check (windows (start .args .releases .now) (start .args .deadlines .now)) (start .args .starts .now)) _ _
+    (placed .place .ensures .answer) passed
     (c .done .ensures
     ∙ ap (λ (x : ℕ). says done x 0)
     (c .before .cost .ensures

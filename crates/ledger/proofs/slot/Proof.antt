@@ -4,6 +4,7 @@ use native.Mathlib.Omega.{arith}
 use borrow.Author.Needs.{needs}
 use Rattle.day.specs.Refusal.{stops, goes-on}
 use Rattle.day.proofs.Refusal.{then-refused}
+use Rattle.day.proofs.Check.{list-is-check}
 use Rattle.claim.proofs.Rows.{Cut}
 use Rattle.claim.proofs.Claim.{judged-next, judged-says, judged-slots, judged-cut}
 use Rattle.ledger.proofs.Same.{plan-filled}
@@ -37,7 +38,7 @@ returns-2 c =
     rw (c .no-slot2 .ensures, c .before .of .ensures)
     record {
       answer =
-          judged-next (c .before .before .before .before .before .before .before .judge .ensures)
+          judged-next list-is-check (c .before .before .before .before .before .before .before .judge .ensures)
           (c .before .before .before .before .if1 .left) _ (stops (record { fault = c .before .before .if2 .taken; says = refl }));
       slot = λ e. absurd (omega arith);
       fill = λ e. absurd (omega arith);
@@ -76,7 +77,7 @@ returns-3 c =
     let passed = taken .before .before .before .before .if1 .left in
     let judged = taken .before .before .before .before .before .before .before .judge .ensures in
     record {
-      answer = judged-next judged passed _ (goes-on (λ a r. omega (arith, r .fault, within)) (judged-says judged passed));
+      answer = judged-next list-is-check judged passed _ (goes-on (λ a r. omega (arith, r .fault, within)) (judged-says list-is-check judged passed));
       slot = λ e. refl;
       fill = λ e.
           plan-filled (judged-slots judged e) (judged .rows .accepted e) within
