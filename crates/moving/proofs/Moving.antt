@@ -13,7 +13,7 @@ use Rattle.day.specs.Windows.{Windows, at, windows}
 use Rattle.day.specs.Change.{Shifts}
 use Rattle.day.specs.Answer.{done}
 use Rattle.day.specs.Refusal.{_then_, Passed}
-use Rattle.day.specs.Check.{most-slots, most-jobs, GoodRows}
+use Rattle.day.specs.Check.{most-slots, most-jobs, TimesCheck, GoodRows}
 use Rattle.day.proofs.Cases.{give, on, on-le}
 use Rattle.day.proofs.Refusal.{IsCheck, refuses-row-is-check, then-is-check, passed-clear, clear-first, clear-next, no-fault, no-row-at-fault}
 use Rattle.day.proofs.Check.{times-is-check, clear-good-rows}
@@ -65,8 +65,8 @@ stays {slots} {by} {release} {deadline} h clear =
       inside = not-above slots (e .0) (λ l. clear (inr (rw (e .1) l)));
     }))
 
-pub move-is-check : (slots : ℕ) (by : ℤ) (w : Windows) → IsCheck (MoveCheck slots by w)
-move-is-check slots by w = then-is-check times-is-check (refuses-row-is-check (λ e. omega arith))
+pub move-is-check : {Check : Answer → Type 0} → IsCheck Check → (slots : ℕ) (by : ℤ) (w : Windows) → IsCheck (MoveCheck Check slots by w)
+move-is-check check slots by w = then-is-check check (refuses-row-is-check (λ e. omega arith))
 
 -- what holds of a list that is not refused
 pub record Acceptable (slots : ℕ) (by : ℤ) (w : Windows) : Type 0 where
@@ -74,9 +74,10 @@ pub record Acceptable (slots : ℕ) (by : ℤ) (w : Windows) : Type 0 where
   pub rows : GoodRows most-jobs slots w
   pub stay : (i : ℕ) → i < w .count → Stays slots by (w .release i) (w .deadline i)
 
-pub acceptable : {slots : ℕ} {by : ℤ} {w : Windows} (a : Answer) → (MoveCheck slots by w then Passed) a → a .code ≡ done → Acceptable slots by w
+pub acceptable : {slots : ℕ} {by : ℤ} {w : Windows} (a : Answer) → (MoveCheck (TimesCheck slots w) slots by w then Passed) a → a .code ≡ done
+    → Acceptable slots by w
 acceptable {slots} {by} {w} a p e =
-    give (passed-clear (move-is-check slots by w) a p e)
+    give (passed-clear (move-is-check times-is-check slots by w) a p e)
     (λ clear.
     give (clear-good-rows (clear-next (clear-first clear)))
     (λ good.

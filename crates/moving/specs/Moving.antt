@@ -20,9 +20,9 @@ Outside slots by release deadline = ((pos release +ℤ by) <ℤ pos 0) ⊎ (pos 
 abbrev pub LeavesDay : ℕ → ℤ → Windows → ℕ → Type 0
 LeavesDay slots by w i = Outside slots by (w .release i) (w .deadline i)
 
--- codes 1, 3, 4 and 18
-abbrev pub MoveCheck : ℕ → ℤ → Windows → Answer → Type 0
-MoveCheck slots by w = TimesCheck slots w then RefusesRow leaves-day (w .count) (LeavesDay slots by w)
+-- what is checked of the list, and 18
+abbrev pub MoveCheck : (Answer → Type 0) → ℕ → ℤ → Windows → Answer → Type 0
+MoveCheck Check slots by w = Check then RefusesRow leaves-day (w .count) (LeavesDay slots by w)
 
 -- every row is moved; a deadline without a release is no row and stays
 pub record RowsMoved (by : ℤ) (releases deadlines releases-after deadlines-after : List ℕ) : Type 0 where
@@ -30,7 +30,12 @@ pub record RowsMoved (by : ℤ) (releases deadlines releases-after deadlines-aft
   pub as-long : length deadlines-after ≡ length deadlines
   pub surplus : (i : ℕ) → length releases ≤ i → at deadlines-after i ≡ at deadlines i
 
-pub record MovedList (slots : ℕ) (by : ℤ) (releases deadlines : List ℕ) (a : Answer) (releases-after deadlines-after : List ℕ) : Type 0 where
-  pub answer : (MoveCheck slots by (windows releases deadlines) then Passed) a
+-- a list that is moved, for any check of it
+pub record MovedList (Check : Answer → Type 0) (slots : ℕ) (by : ℤ) (releases deadlines : List ℕ) (a : Answer) (releases-after deadlines-after : List ℕ) : Type 0 where
+  pub answer : (MoveCheck Check slots by (windows releases deadlines) then Passed) a
   pub accepted : a .code ≡ done → RowsMoved by releases deadlines releases-after deadlines-after
   pub refused : (a .code ≡ done → ⊥) → (releases-after ≡ releases) × (deadlines-after ≡ deadlines)
+
+-- what `move_list` promises: codes 1, 3 and 4 for the list
+abbrev pub MovePromise : ℕ → ℤ → List ℕ → List ℕ → Answer → List ℕ → List ℕ → Type 0
+MovePromise slots by releases deadlines = MovedList (TimesCheck slots (windows releases deadlines)) slots by releases deadlines

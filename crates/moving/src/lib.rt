@@ -9,12 +9,13 @@ ghost use lib.ListN.{length};
 ghost use lib.IntN.{pos, _+ℤ_};
 ghost use Rattle.day.specs.Windows.{windows};
 ghost use Rattle.day.specs.Refusal.{_then_, Passed, FirstOrEnd};
-ghost use Rattle.moving.specs.Moving.{Outside, LeavesDay, MoveCheck, MovedList};
+ghost use Rattle.day.specs.Check.{TimesCheck};
+ghost use Rattle.moving.specs.Moving.{Outside, LeavesDay, MoveCheck, MovePromise};
 ghost use Rattle.moving.specs.Steps.{Decides, Movable, FirstMoved};
 
 // Moves every row by `by` slots; a positive number is later. Where it refuses, no list is touched.
 pub fn move_list(slots: u16, by: i16, releases: &mut [u16], deadlines: &mut [u16]) -> Answer
-    ensures { λ a. ⌜ MovedList slots by (now (releases .entry)) (now (deadlines .entry)) a (now (releases .exit)) (now (deadlines .exit)) ⌝ }
+    ensures { λ a. ⌜ MovePromise slots by (now (releases .entry)) (now (deadlines .entry)) a (now (releases .exit)) (now (deadlines .exit)) ⌝ }
 {
     let answer = check_move(slots, by, releases, deadlines);
     if answer.code != code::DONE {
@@ -28,7 +29,7 @@ pub fn move_list(slots: u16, by: i16, releases: &mut [u16], deadlines: &mut [u16
 
 // Judges the day, the rows and where each row would come to lie.
 fn check_move(slots: u16, by: i16, releases: &[u16], deadlines: &[u16]) -> Answer
-    ensures { λ a. ⌜ (MoveCheck slots by (windows (now (releases .entry)) (now (deadlines .entry))) then Passed) a ⌝ }
+    ensures { λ a. ⌜ (MoveCheck (TimesCheck slots (windows (now (releases .entry)) (now (deadlines .entry)))) slots by (windows (now (releases .entry)) (now (deadlines .entry))) then Passed) a ⌝ }
 {
     let times = check_times(slots, releases, deadlines);
     if times.code != code::DONE {

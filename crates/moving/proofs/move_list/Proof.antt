@@ -6,6 +6,7 @@ use mir.Val.{toZ, ofZ}
 use mir.ValLaws.{toZ-ofZ}
 use borrow.Author.Needs.{needs}
 use Rattle.day.specs.Refusal.{_then_, Passed}
+use Rattle.day.specs.Check.{TimesCheck}
 use Rattle.day.specs.Windows.{windows}
 use Rattle.day.proofs.Check.{good-rows-deadlines}
 use Rattle.moving.specs.Moving.{MoveCheck}
@@ -19,7 +20,8 @@ same-shift c = toZ-ofZ w16 (c .args .by) (c .fits .by)
 
 judged : (c : tie.After-check-move) →
     let args = c .before .before .before .before .before .args in
-    (MoveCheck (args .slots) (args .by) (windows (args .releases .now) (args .deadlines .now)) then Passed) (c .check-move .result)
+    let w = windows (args .releases .now) (args .deadlines .now) in
+    (MoveCheck (TimesCheck (args .slots) w) (args .slots) (args .by) w then Passed) (c .check-move .result)
 judged c = rw (same-shift (c .before .before .before .before .before)) at (c .check-move .ensures)
 
 -- a list that was not refused can be moved
