@@ -12,7 +12,7 @@ use Rattle.day.specs.Answer.{says, done}
 use Rattle.day.specs.Windows.{Windows, windows}
 use Rattle.day.specs.Check.{most-jobs}
 use Rattle.day.proofs.Cases.{give}
-use Rattle.day.proofs.Refusal.{then-next}
+use Rattle.day.proofs.Refusal.{code-of, then-next}
 use Rattle.day.proofs.FirstFilled.{filled-as}
 use Rattle.dayfile.specs.declared.Reading.{Reading}
 use Rattle.dayfile.specs.Format.{rows, rows-and-trailer, distance-back, count-in, slots-in, wake-in, distance-in, Marked, release-in, deadline-in}
@@ -79,7 +79,7 @@ reading-undoes-writing {m} {day} {releases} {deadlines} {file} {file-after} {xs}
     (λ s.
     give (says-accepted (r .answer) s (room .few) (omega arith) (read .answer))
     (λ accepted.
-    give (read .accepted (ap (λ (x : Answer). x .code) accepted))
+    give (read .accepted (code-of accepted))
     (λ given.
     record {
       answer = accepted;

@@ -7,7 +7,7 @@ use Rattle.day.specs.declared.Answer.{Answer}
 use Rattle.day.specs.declared.Day.{Day}
 use Rattle.day.specs.Answer.{done}
 use Rattle.day.proofs.Cases.{on-eq, give}
-use Rattle.day.proofs.Refusal.{refuses-is-check, then-unique}
+use Rattle.day.proofs.Refusal.{code-of, refuses-is-check, then-unique}
 use Rattle.day.proofs.FirstFilled.{filled-unique}
 use Rattle.dayfile.specs.declared.Reading.{Reading}
 use Rattle.dayfile.specs.Reader.{no-reading, FileCheck, Read}
@@ -39,7 +39,7 @@ pub read-unique : {file xs ys xs-after ys-after xs-other ys-other : List ℕ} {r
 read-unique {file = file} {r = r} {q = q} p s =
     give (file-check-unique file _ (r .answer) (q .answer) (p .answer) (s .answer))
     (λ same.
-    give (ap (λ (a : Answer). a .code) same)
+    give (code-of same)
     (λ code.
     on-eq (r .answer .code) done
     (λ e.
@@ -66,7 +66,7 @@ pub written-unique : {m : ℕ} {day : Day} {releases deadlines file after other 
 written-unique {a = a} {b = b} p s =
     give (room-check-unique _ _ _ a b (p .answer) (s .answer))
     (λ same.
-    give (ap (λ (x : Answer). x .code) same)
+    give (code-of same)
     (λ code. (
       same,
       on-eq (a .code) done (λ e. p .accepted e .between ∙ sym (s .accepted (sym code ∙ e) .between))

@@ -10,10 +10,12 @@ use Rattle.day.specs.declared.Day.{Day}
 use Rattle.day.specs.Windows.{Windows, windows, at}
 use Rattle.day.specs.Answer.{says, done, no-plan, long-input}
 use Rattle.day.specs.Refusal.{_then_, stops, goes-on, Refuses}
-use Rattle.day.specs.Check.{Accepted, most-jobs}
+use Rattle.day.specs.Check.{Accepted, ListCheck, most-jobs}
+use Rattle.day.specs.Planned.{Planned}
 use Rattle.day.proofs.Cases.{on-eq, on-le}
-use Rattle.day.proofs.Refusal.{then-clear, then-group, then-next, passed-clear, clear-first, clear-next, no-fault, past}
+use Rattle.day.proofs.Refusal.{code-of, Avoids, refuses-avoids, passed-avoids, then-avoids, then-clear, then-group, then-next, passed-clear, clear-first, clear-next, no-fault, past}
 use Rattle.day.proofs.Check.{clear-accepted, accepted-clear}
+use Rattle.day.proofs.Planned.{planned-refused}
 use Rattle.dayfile.specs.declared.Reading.{Reading}
 use Rattle.dayfile.specs.Format.{count-in, release-in, deadline-in}
 use Rattle.dayfile.specs.Reader.{FilledFrom, FileCheck, Read}
@@ -22,10 +24,10 @@ use Rattle.dayfile.proofs.Unique.{file-check-unique}
 use Rattle.claim.specs.Claim.{ClaimCheck}
 use Rattle.claim.proofs.Claim.{fit-clear}
 use Rattle.planner.specs.Table.{need}
-use Rattle.planner.specs.Promise.{Planned, PlanCheck}
-use Rattle.planner.proofs.Promise.{code-of, planned-refused, plan-is-check}
+use Rattle.planner.specs.Promise.{PlanCheck}
+use Rattle.planner.proofs.Promise.{plan-is-check}
 use Rattle.ledger.specs.declared.LedgerAnswer.{LedgerAnswer}
-use Rattle.ledger.specs.Promise.{Ledgered}
+use Rattle.ledger.specs.Promise.{LedgerPromise}
 use Rattle.report.specs.declared.Outcome.{Outcome}
 use Rattle.report.specs.File.{
   most-bytes,
@@ -54,13 +56,13 @@ module _ {day : Day} {w : Windows} {starts table p t : List ℕ} {n : ℕ} {a : 
       on-le (w .count) (length starts) (λ h. omega (arith, A .planned e .long))
       (λ h. absurd (no-fault (clear-first (clear-next found-clear)) h))
 
-  found-claim-clear : (b : Answer) → ClaimCheck day w p b → ⊥
+  found-claim-clear : (b : Answer) → ClaimCheck (ListCheck day w) w p b → ⊥
   found-claim-clear =
       then-clear (accepted-clear found-accepted)
       (fit-clear w p (record { long = found-long; proper = A .planned e .best .proper }))
 
   -- with its ledger it is what is promised
-  pub found-reported : {answered : LedgerAnswer} {count : ℕ} → Ledgered day w p answered → count ≡ w .count → n ≡ need (day .slots) (w .count)
+  pub found-reported : {answered : LedgerAnswer} {count : ℕ} → LedgerPromise day w p answered → count ≡ w .count → n ≡ need (day .slots) (w .count)
       → RowsReported day w starts table (record { answer = a; count = count; counts = answered .counts }) p t
   found-reported {answered} L same needed =
       record {
@@ -94,39 +96,32 @@ checked-reported {o = o} clear R =
       refused = R .refused;
     }
 
--- a refusal of the whole has the code that it names
-not-code : {code k : ℕ} {Fault : Type 0} {Next : Answer → Type 0} {a : Answer} → (code ≡ k → ⊥) → (Next a → a .code ≡ k → ⊥)
-    → (Refuses code Fault then Next) a → a .code ≡ k → ⊥
-not-code h next (stops p) e = h (sym (ap code-of (p .says)) ∙ e)
-not-code h next (goes-on clear p) e = next p e
-
 -- the reader never answers that there is no plan
-reader-not-no-plan : (file : List ℕ) (room : ℕ) {a : Answer} → FileCheck file room a → a .code ≡ no-plan → ⊥
-reader-not-no-plan file room =
-    not-code (λ e. omega arith)
-    (not-code (λ e. omega arith)
-    (not-code (λ e. omega arith)
-    (not-code (λ e. omega arith)
-    (not-code (λ e. omega arith) (not-code (λ e. omega arith) (λ p e. omega (arith, ap code-of p)))))))
+reader-avoids-no-plan : (file : List ℕ) (room : ℕ) → Avoids no-plan (FileCheck file room)
+reader-avoids-no-plan file room =
+    then-avoids (refuses-avoids (λ e. omega arith))
+    (then-avoids (refuses-avoids (λ e. omega arith))
+    (then-avoids (refuses-avoids (λ e. omega arith))
+    (then-avoids (refuses-avoids (λ e. omega arith))
+    (then-avoids (refuses-avoids (λ e. omega arith))
+    (then-avoids (refuses-avoids (λ e. omega arith)) (passed-avoids (λ e. omega arith)))))))
 
 module _ (file starts table : List ℕ) where
-  input-refused : (a : Answer) → InputCheck file a → (a .code ≡ done → ⊥) → (a .code ≡ no-plan → ⊥)
-      → FileReported file starts table (no-outcome a) starts table
-  input-refused a p h n =
+  input-refused : (a : Answer) → InputCheck file a → FileReported file starts table (no-outcome a) starts table
+  input-refused a p =
+      let not-done : a .code ≡ done → ⊥ = then-avoids (refuses-avoids (λ e. omega arith)) (λ b r. r .refused) a p in
       refused-reported
       (planned-refused (FilePlanCheck file starts table) (need (day-of file .slots) (windows-of file .count)) (day-of file) (windows-of file)
-      starts table a (stops (stops p)) h n)
-      h
+      starts table a (stops (stops p)) not-done
+      (then-avoids (refuses-avoids (λ e. omega arith)) (λ b r. reader-avoids-no-plan file most-jobs b (r .reads)) a p))
+      not-done
 
   pub file-too-long : (a : Answer) → most-bytes < length file → a ≡ says long-input 0 0 → FileReported file starts table (no-outcome a) starts table
-  file-too-long a h e =
-      let long : Refuses long-input (most-bytes < length file) a = record { fault = h; says = e } in
-      input-refused a (stops long) (λ d. omega (arith, ap code-of e)) (λ d. omega (arith, ap code-of e))
+  file-too-long a h e = input-refused a (stops (record { fault = h; says = e }))
 
   pub file-not-read : (a : Answer) → length file ≤ most-bytes → FileCheck file most-jobs a → (a .code ≡ done → ⊥)
       → FileReported file starts table (no-outcome a) starts table
-  file-not-read a h p d =
-      input-refused a (past (λ l. omega arith) (record { reads = p; refused = d })) d (reader-not-no-plan file most-jobs p)
+  file-not-read a h p d = input-refused a (past (λ l. omega arith) (record { reads = p; refused = d }))
 
   -- of a file that is read, the rows are planned
   file-read : {o : Outcome} {p t : List ℕ} (a : Answer) → length file ≤ most-bytes → FileCheck file most-jobs a → a .code ≡ done
@@ -134,7 +129,7 @@ module _ (file starts table : List ℕ) where
   file-read a h p d =
       checked-reported
       (then-clear (λ b r. omega (arith, r .fault))
-      (λ b r. r .refused (ap code-of (file-check-unique file most-jobs b a (r .reads) p) ∙ d)))
+      (λ b r. r .refused (code-of (file-check-unique file most-jobs b a (r .reads) p) ∙ d)))
 
 listed-length : (f : ℕ → ℕ) (n : ℕ) → length (listed f n) ≡ n
 unfolding listed

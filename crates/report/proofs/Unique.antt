@@ -10,9 +10,11 @@ use Rattle.day.specs.Answer.{done}
 use Rattle.day.specs.Check.{most-jobs}
 use Rattle.day.proofs.Cases.{on-eq}
 use Rattle.day.proofs.Refusal.{IsCheck, refuses-is-check, then-is-check, passed-clear, clear-next}
+use Rattle.day.proofs.Check.{list-is-check}
+use Rattle.day.proofs.Planned.{planned-unique}
 use Rattle.dayfile.proofs.Unique.{file-check-unique}
 use Rattle.planner.specs.Table.{need}
-use Rattle.planner.proofs.Promise.{planned-unique, plan-is-check, list-accepted}
+use Rattle.planner.proofs.Promise.{plan-is-check, list-accepted}
 use Rattle.ledger.specs.declared.LedgerAnswer.{LedgerAnswer}
 use Rattle.ledger.proofs.Promise.{ledgered-unique}
 use Rattle.report.specs.declared.Outcome.{Outcome}
@@ -31,7 +33,7 @@ reported-unique {Check} {day} {w} {starts} {table} {p} {t} {p′} {t′} {o} {q}
     (λ e.
     let d : q .answer .code ≡ done = rw (same .0) at e in
     let counts : o .counts ≡ q .counts =
-    ap (λ (l : LedgerAnswer). l .counts) (ledgered-unique day w p′ _ _ (rw (same .1) at (R .counts e)) (S .counts d))
+    ap (λ (l : LedgerAnswer). l .counts) (ledgered-unique list-is-check day w p′ _ _ (rw (same .1) at (R .counts e)) (S .counts d))
     in
     rw (same .0, R .count e ∙ sym (S .count d), counts))
     (λ e. R .refused e ∙ ap no-outcome (same .0) ∙ sym (S .refused (rw (same .0) at e)))

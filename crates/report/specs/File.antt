@@ -9,11 +9,12 @@ use Rattle.day.specs.Windows.{Windows, windows, at}
 use Rattle.day.specs.Answer.{says, done, long-input}
 use Rattle.day.specs.Refusal.{_then_, Refuses}
 use Rattle.day.specs.Check.{most-jobs}
+use Rattle.day.specs.Planned.{Planned}
 use Rattle.dayfile.specs.Format.{count-in, slots-in, wake-in, release-in, deadline-in}
 use Rattle.dayfile.specs.Reader.{FileCheck}
 use Rattle.planner.specs.Table.{need}
-use Rattle.planner.specs.Promise.{Planned, PlanCheck}
-use Rattle.ledger.specs.Promise.{no-counts, Ledgered}
+use Rattle.planner.specs.Promise.{PlanCheck}
+use Rattle.ledger.specs.Promise.{no-counts, LedgerPromise}
 use Rattle.report.specs.declared.Outcome.{Outcome}
 use Rattle.report.specs.declared.text.Text.{Text}
 use Rattle.report.specs.Lines.{lines, Prints}
@@ -54,7 +55,7 @@ no-outcome answer = record { answer = answer; count = 0; counts = no-counts }
 pub record Reported (Check : Answer → Type 0) (day : Day) (w : Windows) (starts table : List ℕ) (o : Outcome) (starts′ table′ : List ℕ) : Type 0 where
   pub plan : Planned Check (need (day .slots) (w .count)) day w starts table (o .answer) starts′ table′
   pub count : o .answer .code ≡ done → o .count ≡ w .count
-  pub counts : o .answer .code ≡ done → Ledgered day w starts′ (record { answer = says done 0 0; counts = o .counts })
+  pub counts : o .answer .code ≡ done → LedgerPromise day w starts′ (record { answer = says done 0 0; counts = o .counts })
   pub refused : (o .answer .code ≡ done → ⊥) → o ≡ no-outcome (o .answer)
 
 abbrev pub RowsReported : Day → Windows → List ℕ → List ℕ → Outcome → List ℕ → List ℕ → Type 0
