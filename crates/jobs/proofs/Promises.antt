@@ -14,16 +14,15 @@ use Rattle.day.specs.Answer.{done, no-plan}
 use Rattle.day.specs.Refusal.{_then_, Passed}
 use Rattle.day.specs.Check.{most-jobs, TimesCheck, ListCheck}
 use Rattle.day.proofs.Cases.{on-le}
-use Rattle.day.proofs.Check.{list-is-check}
+use Rattle.day.proofs.Check.{list-is-check, list-avoids}
 use Rattle.day.proofs.Refusal.{refuses-is-check}
-use Rattle.claim.specs.Claim.{ClaimCheck, Priced}
-use Rattle.claim.specs.Choice.{Chosen, PartFor, refused, of-own, of-server, HandedBack}
+use Rattle.claim.specs.Claim.{ClaimCheck, PricePromise}
+use Rattle.claim.specs.Choice.{ChoicePromise, PartFor, refused, of-own, of-server, PartPromise}
 use Rattle.dayfile.specs.Writer.{Written}
 use Rattle.ledger.specs.declared.LedgerAnswer.{LedgerAnswer}
 use Rattle.ledger.specs.declared.SlotAnswer.{SlotAnswer}
-use Rattle.ledger.specs.Promise.{Ledgered, SlotShown}
+use Rattle.ledger.specs.Promise.{LedgerPromise, SlotPromise}
 use Rattle.planner.specs.Promise.{PlanCheck}
-use Rattle.planner.proofs.Promise.{list-not-no-plan}
 use Rattle.jobs.specs.declared.numbers.SlotNumbers.{SlotNumbers}
 use Rattle.jobs.specs.Plans.{PlannedColumns}
 use Rattle.jobs.specs.Slot.{SlotNumbered}
@@ -41,10 +40,10 @@ listed P alike jobs p =
 
 -- of more than 40 rows a claimed plan is refused by the list
 module _ (day : Day) (w v : Windows) (starts : List ℕ) (many : most-jobs < w .count) (other : most-jobs < v .count) where
-  claims-alike : Alike (ClaimCheck day w starts) (ClaimCheck day v starts)
+  claims-alike : Alike (ClaimCheck (ListCheck day w) w starts) (ClaimCheck (ListCheck day v) v starts)
   claims-alike = alike-first (lists-alike w v many other day)
 
-  claim-not-done : {Next : Answer → Type 0} (a : Answer) → (ClaimCheck day w starts then Next) a → a .code ≡ done → ⊥
+  claim-not-done : {Next : Answer → Type 0} (a : Answer) → (ClaimCheck (ListCheck day w) w starts then Next) a → a .code ≡ done → ⊥
   claim-not-done a p = list-is-check .not-done a (alike-stops (lists-alike w v many other day) a (alike-stops claims-alike a p))
 
 module _ (jobs : List Job) where
@@ -53,19 +52,19 @@ module _ (jobs : List Job) where
       listed (λ xs ys. (TimesCheck slots (windows xs ys) then Passed) a)
       (λ xs ys xs′ ys′ h l. alike-first (times-alike (windows xs ys) (windows xs′ ys′) h l slots) .same a) jobs
 
-  pub list-priced : (day : Day) (starts : List ℕ) (a : Answer) → Priced day (windows-in (rows-of jobs)) starts a → Priced day (windows-of jobs) starts a
+  pub list-priced : (day : Day) (starts : List ℕ) (a : Answer) → PricePromise day (windows-in (rows-of jobs)) starts a → PricePromise day (windows-of jobs) starts a
   list-priced day starts a =
-      listed (λ xs ys. Priced day (windows xs ys) starts a)
+      listed (λ xs ys. PricePromise day (windows xs ys) starts a)
       (λ xs ys xs′ ys′ h l. alike-first (claims-alike day (windows xs ys) (windows xs′ ys′) starts h l) .same a) jobs
 
-  pub list-chosen : (day : Day) (own server : List ℕ) (a : Answer) → Chosen day (windows-in (rows-of jobs)) own server a → Chosen day (windows-of jobs) own server a
+  pub list-chosen : (day : Day) (own server : List ℕ) (a : Answer) → ChoicePromise day (windows-in (rows-of jobs)) own server a → ChoicePromise day (windows-of jobs) own server a
   list-chosen day own server a =
-      listed (λ xs ys. Chosen day (windows xs ys) own server a)
+      listed (λ xs ys. ChoicePromise day (windows xs ys) own server a)
       (λ xs ys xs′ ys′ h l. alike-first (lists-alike (windows xs ys) (windows xs′ ys′) h l day) .same a) jobs
 
-  pub list-handed : (day : Day) (own server part : RefT (List ℕ)) → HandedBack day (windows-in (rows-of jobs)) own server part → HandedBack day (windows-of jobs) own server part
+  pub list-handed : (day : Day) (own server part : RefT (List ℕ)) → PartPromise day (windows-in (rows-of jobs)) own server part → PartPromise day (windows-of jobs) own server part
   list-handed day own server part =
-      listed (λ xs ys. HandedBack day (windows xs ys) own server part)
+      listed (λ xs ys. PartPromise day (windows xs ys) own server part)
       (λ xs ys xs′ ys′ h l p.
       let alike : _ = lists-alike (windows xs ys) (windows xs′ ys′) h l day in
       record {
@@ -80,9 +79,9 @@ module _ (jobs : List Job) where
       empty n m a h (of-own e s) = absurd (h (ap (λ (b : Answer). b .code) e))
       empty n m a h (of-server e s) = absurd (h (ap (λ (b : Answer). b .code) e))
 
-  pub list-ledgered : (day : Day) (starts : List ℕ) (answered : LedgerAnswer) → Ledgered day (windows-in (rows-of jobs)) starts answered → Ledgered day (windows-of jobs) starts answered
+  pub list-ledgered : (day : Day) (starts : List ℕ) (answered : LedgerAnswer) → LedgerPromise day (windows-in (rows-of jobs)) starts answered → LedgerPromise day (windows-of jobs) starts answered
   list-ledgered day starts answered =
-      listed (λ xs ys. Ledgered day (windows xs ys) starts answered)
+      listed (λ xs ys. LedgerPromise day (windows xs ys) starts answered)
       (λ xs ys xs′ ys′ h l p.
       record {
         answer = alike-first (claims-alike day (windows xs ys) (windows xs′ ys′) starts h l) .same (answered .answer) (p .answer);
@@ -90,9 +89,9 @@ module _ (jobs : List Job) where
         refused = p .refused;
       }) jobs
 
-  pub list-shown : (day : Day) (starts : List ℕ) (asked : ℕ) (shown : SlotAnswer) → SlotShown day (windows-in (rows-of jobs)) starts asked shown → SlotShown day (windows-of jobs) starts asked shown
+  pub list-shown : (day : Day) (starts : List ℕ) (asked : ℕ) (shown : SlotAnswer) → SlotPromise day (windows-in (rows-of jobs)) starts asked shown → SlotPromise day (windows-of jobs) starts asked shown
   list-shown day starts asked shown =
-      listed (λ xs ys. SlotShown day (windows xs ys) starts asked shown)
+      listed (λ xs ys. SlotPromise day (windows xs ys) starts asked shown)
       (λ xs ys xs′ ys′ h l p.
       record {
         answer = alike-first (claims-alike day (windows xs ys) (windows xs′ ys′) starts h l) .same (shown .answer) (p .answer);
@@ -113,7 +112,7 @@ module _ (jobs : List Job) where
       let checks : Alike (PlanCheck day (windows xs ys) starts table) (PlanCheck day (windows xs′ ys′) starts table) = alike-first alike in
       let refused : ListCheck day (windows xs ys) a = alike-stops alike a (alike-stops checks a (p .answer)) in
       let not-done : a .code ≡ done → ⊥ = list-is-check .not-done a refused in
-      let not-no-plan : a .code ≡ no-plan → ⊥ = list-not-no-plan day (windows xs ys) a refused in
+      let not-no-plan : a .code ≡ no-plan → ⊥ = list-avoids (omega arith) a refused in
       record {
         answer = alike-first checks .same a (p .answer);
         planned = λ e. absurd (not-done e);

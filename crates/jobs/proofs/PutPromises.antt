@@ -12,10 +12,11 @@ use Rattle.day.specs.declared.Answer.{Answer}
 use Rattle.day.specs.declared.Job.{Job}
 use Rattle.day.specs.Windows.{Windows, at, windows}
 use Rattle.day.specs.Answer.{done, few-rows}
-use Rattle.day.specs.Check.{most-jobs}
+use Rattle.day.specs.Check.{most-jobs, TimesCheck}
 use Rattle.day.specs.Refusal.{_then_, stops, goes-on, Passed, Refuses}
 use Rattle.day.proofs.Cases.{give, on-le}
-use Rattle.moving.specs.Moving.{MoveCheck, RowsMoved, MovedList}
+use Rattle.day.proofs.Check.{times-is-check}
+use Rattle.moving.specs.Moving.{MoveCheck, RowsMoved, MovePromise}
 use Rattle.moving.proofs.Moving.{move-is-check}
 use Rattle.dayfile.specs.declared.Reading.{Reading}
 use Rattle.dayfile.specs.Format.{count-in, release-in, deadline-in}
@@ -33,7 +34,7 @@ use Rattle.jobs.proofs.Put.{put-few, put-within, put-none, put-long, pu
 use Rattle.jobs.proofs.TooMany.{Alike, alike-stops, alike-first, map-next, times-alike}
 use Rattle.jobs.proofs.Promises.{listed}
 
-moves-alike : (slots : ℕ) (by : ℤ) (w v : Windows) → most-jobs < w .count → most-jobs < v .count → Alike (MoveCheck slots by w) (MoveCheck slots by v)
+moves-alike : (slots : ℕ) (by : ℤ) (w v : Windows) → most-jobs < w .count → most-jobs < v .count → Alike (MoveCheck (TimesCheck slots w) slots by w) (MoveCheck (TimesCheck slots v) slots by v)
 moves-alike slots by w v many other = alike-first (times-alike w v many other slots)
 
 -- a list whose rows are moved and all put back is moved
@@ -64,13 +65,13 @@ module _ (jobs : List Job) (slots : ℕ) (by : ℤ) (m : MovedRows) (p : MovesRo
       on-le (length jobs) most-jobs (λ h. h)
       (λ h.
       let w : Windows = windows-in (rows-of jobs) in
-      absurd (move-is-check slots by w .not-done (m .answer)
+      absurd (move-is-check times-is-check slots by w .not-done (m .answer)
       (alike-stops (moves-alike slots by w w (many-rows jobs h) (many-rows jobs h)) (m .answer) (p .answer)) e))
 
-  pub list-moved : MovedList slots by (releases jobs) (deadlines jobs) (m .answer) (releases after) (deadlines after)
+  pub list-moved : MovePromise slots by (releases jobs) (deadlines jobs) (m .answer) (releases after) (deadlines after)
   list-moved =
       record {
-        answer = listed (λ xs ys. (MoveCheck slots by (windows xs ys) then Passed) (m .answer)) (λ xs ys xs′ ys′ h l. alike-first (moves-alike slots by (windows xs ys) (windows xs′ ys′) h l) .same (m .answer)) jobs (p .answer);
+        answer = listed (λ xs ys. (MoveCheck (TimesCheck slots (windows xs ys)) slots by (windows xs ys) then Passed) (m .answer)) (λ xs ys xs′ ys′ h l. alike-first (moves-alike slots by (windows xs ys) (windows xs′ ys′) h l) .same (m .answer)) jobs (p .answer);
         accepted = λ e.
             give (few e) (λ h.
             put-moved by jobs (m .rows) (p .same-count e ∙ few-count jobs h) h

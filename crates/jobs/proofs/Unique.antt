@@ -8,10 +8,11 @@ use Rattle.day.specs.declared.Day.{Day}
 use Rattle.day.specs.declared.Job.{Job}
 use Rattle.day.specs.Windows.{Windows}
 use Rattle.day.proofs.Cases.{give}
+use Rattle.day.proofs.Check.{times-is-check, list-is-check}
 use Rattle.dayfile.specs.declared.Reading.{Reading}
 use Rattle.dayfile.specs.Reader.{Read}
 use Rattle.dayfile.proofs.Unique.{read-unique}
-use Rattle.moving.specs.Moving.{MovedList}
+use Rattle.moving.specs.Moving.{MovePromise}
 use Rattle.moving.proofs.Unique.{moved-list-unique}
 use Rattle.ledger.proofs.Promise.{shown-unique}
 use Rattle.jobs.specs.declared.numbers.SlotNumbers.{SlotNumbers}
@@ -32,11 +33,11 @@ same-columns (j ∷ js) (k ∷ ks) r d =
     give (same-columns js ks (tail-eq-of-cons-eq r) (tail-eq-of-cons-eq d)) (λ (b : js ≡ ks). rw (a, b)))
 
 pub moved-jobs-unique : (slots : ℕ) (by : ℤ) (jobs : List Job) (a b : Answer) (js ks : List Job)
-    → MovedList slots by (releases jobs) (deadlines jobs) a (releases js) (deadlines js)
-    → MovedList slots by (releases jobs) (deadlines jobs) b (releases ks) (deadlines ks)
+    → MovePromise slots by (releases jobs) (deadlines jobs) a (releases js) (deadlines js)
+    → MovePromise slots by (releases jobs) (deadlines jobs) b (releases ks) (deadlines ks)
     → (a ≡ b) × (js ≡ ks)
 moved-jobs-unique slots by jobs a b js ks p q =
-    give (moved-list-unique p q) (λ s. (s .0, same-columns js ks (s .1) (s .2)))
+    give (moved-list-unique times-is-check p q) (λ s. (s .0, same-columns js ks (s .1) (s .2)))
 
 pub read-jobs-unique : (file : List ℕ) (jobs : List Job) (a b : Reading) (js ks : List Job)
     → Read file (releases jobs) (deadlines jobs) a (releases js) (deadlines js)
@@ -49,5 +50,5 @@ pub slot-numbers-unique : (day : Day) (w : Windows) (starts : List ℕ) (asked :
     → SlotNumbered day w starts asked a → SlotNumbered day w starts asked b → a ≡ b
 slot-numbers-unique day w starts asked a b p q =
     p .same
-    ∙ ap in-numbers (shown-unique day w starts asked (p .shown) (q .shown) (p .promised) (q .promised))
+    ∙ ap in-numbers (shown-unique list-is-check day w starts asked (p .shown) (q .shown) (p .promised) (q .promised))
     ∙ sym (q .same)

@@ -6,6 +6,7 @@ use lib.ListN.{take}
 use lib.IntN.{ℤ}
 use Rattle.day.specs.Answer.{done}
 use Rattle.day.specs.Refusal.{_then_, Passed}
+use Rattle.day.specs.Check.{TimesCheck}
 use Rattle.moving.specs.Moving.{MoveCheck, RowsMoved}
 use Rattle.dayfile.specs.Reader.{Read}
 use Rattle.jobs.specs.declared.rows.Rows.{Rows}
@@ -15,7 +16,7 @@ use Rattle.jobs.specs.Rows.{releases-in, deadlines-in, windows-in, put-c
 
 -- the moved rows; none under a refusal, so that nothing is put back
 pub record MovesRows (slots : ℕ) (by : ℤ) (rows : Rows) (m : MovedRows) : Type 0 where
-  pub answer : (MoveCheck slots by (windows-in rows) then Passed) (m .answer)
+  pub answer : (MoveCheck (TimesCheck slots (windows-in rows)) slots by (windows-in rows) then Passed) (m .answer)
   pub same-count : m .answer .code ≡ done → m .rows .count ≡ rows .count
   pub moved : m .answer .code ≡ done → RowsMoved by (releases-in rows) (deadlines-in rows) (releases-in (m .rows)) (deadlines-in (m .rows))
   pub refused : (m .answer .code ≡ done → ⊥) → m .rows .count ≡ 0

@@ -8,7 +8,7 @@ use Rattle.ledger.specs.declared.Fill.{Fill}
 use Rattle.ledger.specs.declared.Fill.the-variants.{Job, Before, Awake, Asleep, After}
 use Rattle.ledger.specs.declared.SlotAnswer.{SlotAnswer}
 use Rattle.ledger.specs.Count.{column}
-use Rattle.ledger.specs.Promise.{SlotShown}
+use Rattle.ledger.specs.Promise.{SlotPromise}
 use Rattle.jobs.specs.declared.numbers.SlotNumbers.{SlotNumbers}
 
 -- the row of the job that fills a slot; 0 where none does
@@ -32,5 +32,5 @@ in-numbers shown =
 -- the numbers of the slot's record
 pub record SlotNumbered (day : Day) (w : Windows) (starts : List ℕ) (asked : ℕ) (numbers : SlotNumbers) : Type 0 where
   pub shown : SlotAnswer
-  pub promised : SlotShown day w starts asked shown
+  pub promised : SlotPromise day w starts asked shown
   pub same : numbers ≡ in-numbers shown

@@ -12,10 +12,10 @@ use ledger::LedgerAnswer;
 use ledger::SlotAnswer;
 ghost use Rattle.day.specs.Refusal.{_then_, Passed};
 ghost use Rattle.day.specs.Check.{TimesCheck};
-ghost use Rattle.claim.specs.Claim.{Priced};
-ghost use Rattle.claim.specs.Choice.{Chosen, HandedBack};
+ghost use Rattle.claim.specs.Claim.{PricePromise};
+ghost use Rattle.claim.specs.Choice.{ChoicePromise, PartPromise};
 ghost use Rattle.dayfile.specs.Writer.{Written};
-ghost use Rattle.ledger.specs.Promise.{Ledgered, SlotShown};
+ghost use Rattle.ledger.specs.Promise.{LedgerPromise, SlotPromise};
 ghost use Rattle.jobs.specs.Rows.{releases-in, deadlines-in, windows-in, Placed};
 ghost use Rattle.jobs.specs.Plans.{PlannedColumns};
 ghost use Rattle.jobs.specs.Slot.{SlotNumbered};
@@ -55,7 +55,7 @@ pub(crate) fn plan(day: Day, rows: Rows, starts: &mut [u16], table: &mut [u16]) 
 
 pub(crate) fn price(day: Day, rows: Rows, starts: &[u16]) -> Answer
     requires { ⌜ Placed rows ⌝ }
-    ensures { λ a. ⌜ Priced day (windows-in rows) (now (starts .entry)) a ⌝ }
+    ensures { λ a. ⌜ PricePromise day (windows-in rows) (now (starts .entry)) a ⌝ }
 {
     let count = rows.count;
     let releases = rows.releases;
@@ -65,7 +65,7 @@ pub(crate) fn price(day: Day, rows: Rows, starts: &[u16]) -> Answer
 
 pub(crate) fn which(day: Day, rows: Rows, own: &[u16], server: &[u16]) -> Answer
     requires { ⌜ Placed rows ⌝ }
-    ensures { λ a. ⌜ Chosen day (windows-in rows) (now (own .entry)) (now (server .entry)) a ⌝ }
+    ensures { λ a. ⌜ ChoicePromise day (windows-in rows) (now (own .entry)) (now (server .entry)) a ⌝ }
 {
     let count = rows.count;
     let releases = rows.releases;
@@ -75,7 +75,7 @@ pub(crate) fn which(day: Day, rows: Rows, own: &[u16], server: &[u16]) -> Answer
 
 pub(crate) fn choose<'a>(day: Day, rows: Rows, own: &'a [u16], server: &'a [u16]) -> &'a [u16]
     requires { ⌜ Placed rows ⌝ }
-    ensures { λ part. ⌜ HandedBack day (windows-in rows) (own .entry) (server .entry) part ⌝ }
+    ensures { λ part. ⌜ PartPromise day (windows-in rows) (own .entry) (server .entry) part ⌝ }
 {
     let count = rows.count;
     let releases = rows.releases;
@@ -85,7 +85,7 @@ pub(crate) fn choose<'a>(day: Day, rows: Rows, own: &'a [u16], server: &'a [u16]
 
 pub(crate) fn ledger(day: Day, rows: Rows, starts: &[u16]) -> LedgerAnswer
     requires { ⌜ Placed rows ⌝ }
-    ensures { λ answered. ⌜ Ledgered day (windows-in rows) (now (starts .entry)) answered ⌝ }
+    ensures { λ answered. ⌜ LedgerPromise day (windows-in rows) (now (starts .entry)) answered ⌝ }
 {
     let count = rows.count;
     let releases = rows.releases;
@@ -95,7 +95,7 @@ pub(crate) fn ledger(day: Day, rows: Rows, starts: &[u16]) -> LedgerAnswer
 
 pub(crate) fn slot(day: Day, rows: Rows, starts: &[u16], asked: u16) -> SlotAnswer
     requires { ⌜ Placed rows ⌝ }
-    ensures { λ shown. ⌜ SlotShown day (windows-in rows) (now (starts .entry)) asked shown ⌝ }
+    ensures { λ shown. ⌜ SlotPromise day (windows-in rows) (now (starts .entry)) asked shown ⌝ }
 {
     let count = rows.count;
     let releases = rows.releases;

@@ -12,12 +12,12 @@ use ledger::LedgerAnswer;
 use ledger::SlotAnswer;
 ghost use Rattle.day.specs.Refusal.{_then_, Passed};
 ghost use Rattle.day.specs.Check.{TimesCheck};
-ghost use Rattle.claim.specs.Claim.{Priced};
-ghost use Rattle.claim.specs.Choice.{Chosen, HandedBack};
+ghost use Rattle.claim.specs.Claim.{PricePromise};
+ghost use Rattle.claim.specs.Choice.{ChoicePromise, PartPromise};
 ghost use Rattle.dayfile.specs.Reader.{Read};
 ghost use Rattle.dayfile.specs.Writer.{Written};
-ghost use Rattle.ledger.specs.Promise.{Ledgered, SlotShown};
-ghost use Rattle.moving.specs.Moving.{MovedList};
+ghost use Rattle.ledger.specs.Promise.{LedgerPromise, SlotPromise};
+ghost use Rattle.moving.specs.Moving.{MovePromise};
 ghost use Rattle.jobs.specs.Plans.{PlannedColumns};
 ghost use Rattle.jobs.specs.Slot.{SlotNumbered};
 ghost use Rattle.jobs.specs.Columns.{releases, deadlines, windows-of};
@@ -47,7 +47,7 @@ pub extern "C" fn chaskuri_plan(
 // Prices a claimed plan.
 #[no_mangle]
 pub extern "C" fn chaskuri_price(day: Day, jobs: &[Job], starts: &[u16]) -> Answer
-    ensures { λ a. ⌜ Priced day (windows-of (now (jobs .entry))) (now (starts .entry)) a ⌝ }
+    ensures { λ a. ⌜ PricePromise day (windows-of (now (jobs .entry))) (now (starts .entry)) a ⌝ }
 {
     by_value::price(day, rows::copy_out(jobs), starts)
 }
@@ -55,7 +55,7 @@ pub extern "C" fn chaskuri_price(day: Day, jobs: &[Job], starts: &[u16]) -> Answ
 // Which of two claimed plans for one list wins: as first number 1, the notebook's own, or 2, the server's.
 #[no_mangle]
 pub extern "C" fn chaskuri_which(day: Day, jobs: &[Job], own: &[u16], server: &[u16]) -> Answer
-    ensures { λ a. ⌜ Chosen day (windows-of (now (jobs .entry))) (now (own .entry)) (now (server .entry)) a ⌝ }
+    ensures { λ a. ⌜ ChoicePromise day (windows-of (now (jobs .entry))) (now (own .entry)) (now (server .entry)) a ⌝ }
 {
     by_value::which(day, rows::copy_out(jobs), own, server)
 }
@@ -63,7 +63,7 @@ pub extern "C" fn chaskuri_which(day: Day, jobs: &[Job], own: &[u16], server: &[
 // The winner's first starts, one for each job, as a part of the plan that was lent; under a refusal the empty start of the notebook's own.
 // C takes no reference as a result: it asks `chaskuri_which`.
 pub fn choose<'j, 'a>(day: Day, jobs: &'j [Job], own: &'a [u16], server: &'a [u16]) -> &'a [u16]
-    ensures { λ part. ⌜ HandedBack day (windows-of (now (jobs .entry))) (own .entry) (server .entry) part ⌝ }
+    ensures { λ part. ⌜ PartPromise day (windows-of (now (jobs .entry))) (own .entry) (server .entry) part ⌝ }
 {
     by_value::choose(day, rows::copy_out(jobs), own, server)
 }
@@ -71,14 +71,14 @@ pub fn choose<'j, 'a>(day: Day, jobs: &'j [Job], own: &'a [u16], server: &'a [u1
 // Counts the slots of a claimed plan by what fills them.
 #[no_mangle]
 pub extern "C" fn chaskuri_ledger(day: Day, jobs: &[Job], starts: &[u16]) -> LedgerAnswer
-    ensures { λ answered. ⌜ Ledgered day (windows-of (now (jobs .entry))) (now (starts .entry)) answered ⌝ }
+    ensures { λ answered. ⌜ LedgerPromise day (windows-of (now (jobs .entry))) (now (starts .entry)) answered ⌝ }
 {
     by_value::ledger(day, rows::copy_out(jobs), starts)
 }
 
 // What fills one slot of a claimed plan. C takes no enum: it asks `chaskuri_slot`.
 pub fn slot(day: Day, jobs: &[Job], starts: &[u16], asked: u16) -> SlotAnswer
-    ensures { λ shown. ⌜ SlotShown day (windows-of (now (jobs .entry))) (now (starts .entry)) asked shown ⌝ }
+    ensures { λ shown. ⌜ SlotPromise day (windows-of (now (jobs .entry))) (now (starts .entry)) asked shown ⌝ }
 {
     by_value::slot(day, rows::copy_out(jobs), starts, asked)
 }
@@ -94,7 +94,7 @@ pub extern "C" fn chaskuri_slot(day: Day, jobs: &[Job], starts: &[u16], asked: u
 // Moves every row by `by` slots, in the caller's own list; a positive number is later. Where it refuses, the list is not touched.
 #[no_mangle]
 pub extern "C" fn chaskuri_move(slots: u16, jobs: &mut [Job], by: i16) -> Answer
-    ensures { λ a. ⌜ MovedList slots by (releases (now (jobs .entry))) (deadlines (now (jobs .entry))) a (releases (now (jobs .exit))) (deadlines (now (jobs .exit))) ⌝ }
+    ensures { λ a. ⌜ MovePromise slots by (releases (now (jobs .entry))) (deadlines (now (jobs .entry))) a (releases (now (jobs .exit))) (deadlines (now (jobs .exit))) ⌝ }
 {
     let moved = by_value::move_list(slots, rows::copy_out(jobs), by);
     rows::put_back(jobs, moved.rows);
