@@ -14,7 +14,7 @@ use Rattle.day.proofs.Cases.{on-eq, on-le}
 use Rattle.day.proofs.Refusal.{IsCheck, then-unique, then-next}
 use Rattle.day.proofs.Best.{best-costs, best-unique}
 
-verdict-unique : (day : Day) (w : Windows) (a b : Answer) → Verdict day w a → Verdict day w b → a ≡ b
+pub verdict-unique : (day : Day) (w : Windows) (a b : Answer) → Verdict day w a → Verdict day w b → a ≡ b
 verdict-unique day w a b (costs p P e) (costs q Q f) = e ∙ ap (λ (c : ℕ). says done c 0) (best-costs day w p q P Q) ∙ sym f
 verdict-unique day w a b (costs p P e) (none-proper n f) = absurd (n p (P .proper))
 verdict-unique day w a b (none-proper n e) (costs q Q f) = absurd (n q (Q .proper))

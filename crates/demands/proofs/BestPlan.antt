@@ -13,12 +13,15 @@ use Rattle.day.specs.Best.{Best}
 use Rattle.day.specs.Answer.{says, done, short-table, no-plan}
 use Rattle.day.specs.Refusal.{_then_, stops, goes-on}
 use Rattle.day.specs.Check.{most-jobs, GoodRows, Accepted}
-use Rattle.day.proofs.Cases.{give, on-le}
-use Rattle.day.proofs.Refusal.{no-fault, then-next, then-clear, clear-first, clear-next}
-use Rattle.day.proofs.Check.{accepted-clear, clear-accepted}
+use Rattle.day.specs.Planned.{Verdict, costs, none-proper}
+use Rattle.day.proofs.Cases.{give}
+use Rattle.day.proofs.Refusal.{code-of, past, then-unique, then-next, then-clear}
+use Rattle.day.proofs.Check.{accepted-clear}
 use Rattle.day.proofs.Best.{best-unique, best-costs}
+use Rattle.day.proofs.Planned.{verdict-unique}
 use Rattle.planner.specs.Table.{need}
-use Rattle.planner.specs.Promise.{Verdict, costs, none-proper, PlanCheck}
+use Rattle.planner.specs.Promise.{PlanCheck}
+use Rattle.planner.proofs.Promise.{check-not-no-plan, plan-is-check, list-accepted, enough-starts, enough-table}
 use Rattle.demands.specs.Run.{Run, list, Promised, Taken, Served}
 use Rattle.demands.specs.BestPlan.{BestGiven, NoneGiven, BestOrNone, GivesBestOrNone, AnswersTaken, SevenIfNone}
 
@@ -32,19 +35,11 @@ taken-clear run taken =
     then-clear (accepted-clear (taken .accepted))
     (then-clear (λ b r. omega (arith, r .fault, taken .places)) (λ b r. omega (arith, r .fault, taken .table)))
 
--- where a check has something to refuse, the answer is the check's
-then-fault : {Check Next : Answer → Type 0} (b : Answer) → Check b → (a : Answer) → (Check then Next) a → Check a
-then-fault b q a (stops p) = p
-then-fault b q a (goes-on n p) = absurd (n b q)
-
-code-of : (a : Answer) (code first second : ℕ) → a ≡ says code first second → a .code ≡ code
-code-of a code first second e = rw e
-
 module _ (run : Run) (promised : Promised run) where
   given-best : (p : Plan) → Best (run .day) (list run) p → run .answer ≡ says done (cost (run .day) (list run .count) p) 0
       → BestGiven run
   given-best p best answer =
-      give (code-of (run .answer) done _ _ answer)
+      give (code-of answer)
       (λ code.
       give (promised .planned code)
       (λ here.
@@ -62,18 +57,16 @@ module _ (run : Run) (promised : Promised run) where
       record {
         answer = answer;
         none = none;
-        starts = promised .unplanned (λ code. omega (arith, code-of (run .answer) no-plan 0 0 answer));
+        starts = promised .unplanned (λ code. omega (arith, code-of answer));
       }
 
   -- a work table that is too short, where nothing else is refused
   pub short-given : Accepted (run .day) (list run) → list run .count ≤ length (run .starts)
       → length (run .table) < need (run .day .slots) (list run .count) → run .answer ≡ says short-table 0 0
   short-given accepted room short =
-      then-next (λ b r. omega (arith, r .fault)) (run .answer)
-      (then-next (accepted-clear accepted) (run .answer)
-      (then-fault (says short-table 0 0)
-      (goes-on (accepted-clear accepted) (goes-on (λ b r. omega (arith, r .fault)) (record { fault = short; says = refl })))
-      (run .answer) (promised .answer))) .says
+      then-unique (plan-is-check (run .day) (list run) (run .starts) (run .table)) (verdict-unique (run .day) (list run)) (run .answer)
+      (says short-table 0 0) (promised .answer)
+      (stops (goes-on (accepted-clear accepted) (past (λ h. omega arith) (record { fault = short; says = refl }))))
 
   given : Verdict (run .day) (list run) (run .answer) → BestOrNone run
   given (costs p best answer) = inl (given-best p best answer)
@@ -83,35 +76,25 @@ pub best-or-none : GivesBestOrNone
 best-or-none run served =
     given run (served .promised) (then-next (taken-clear run (served .taken)) (run .answer) (served .promised .answer))
 
--- the checks answer with codes 1 to 6
-refused-code : (run : Run) (a : Answer) → PlanCheck (run .day) (list run) (run .starts) (run .table) a → (0 < a .code) × (a .code < no-plan)
-refused-code run a (stops (stops p)) = omega (arith, code-of a _ _ _ (p .says))
-refused-code run a (stops (goes-on n (stops p))) = omega (arith, code-of a _ _ _ (p .says))
-refused-code run a (stops (goes-on n (goes-on m (stops p)))) = omega (arith, code-of a _ _ _ (p .says))
-refused-code run a (stops (goes-on n (goes-on m (goes-on o p)))) = omega (arith, code-of a _ _ _ (p .says))
-refused-code run a (goes-on n (stops p)) = omega (arith, code-of a _ _ _ (p .says))
-refused-code run a (goes-on n (goes-on m p)) = omega (arith, code-of a _ _ _ (p .says))
-
 pub answers-taken : AnswersTaken
 answers-taken run promised code = taken-by (promised .answer)
   where
     taken-by : (PlanCheck (run .day) (list run) (run .starts) (run .table) then Verdict (run .day) (list run)) (run .answer) → Taken run
     taken-by (stops p) =
-        give (refused-code run (run .answer) p) (λ c. absurd (⊎-elim (λ e. omega arith) (λ e. omega arith) code))
-    taken-by (goes-on n p) =
+        absurd (⊎-elim (plan-is-check (run .day) (list run) (run .starts) (run .table) .not-done (run .answer) p)
+        (check-not-no-plan (run .day) (list run) (run .starts) (run .table) (run .answer) (stops p)) code)
+    taken-by (goes-on clear p) =
         record {
-          accepted = clear-accepted (clear-first n);
-          places = on-le (list run .count) (length (run .starts)) (λ h. h) (λ h. absurd (no-fault (clear-first (clear-next n)) h));
-          table =
-              on-le (need (run .day .slots) (list run .count)) (length (run .table)) (λ h. h)
-              (λ h. absurd (no-fault (clear-next (clear-next n)) h));
+          accepted = list-accepted (run .day) (list run) (run .starts) (run .table) clear;
+          places = enough-starts (run .day) (list run) (run .starts) (run .table) clear;
+          table = enough-table (run .day) (list run) (run .starts) (run .table) clear;
         }
 
 pub best-code : (run : Run) → BestGiven run → run .answer .code ≡ done
-best-code run given = code-of (run .answer) done _ _ (given .answer)
+best-code run given = code-of (given .answer)
 
 pub none-code : (run : Run) → NoneGiven run → run .answer .code ≡ no-plan
-none-code run given = code-of (run .answer) no-plan 0 0 (given .answer)
+none-code run given = code-of (given .answer)
 
 -- code 0 comes with the best plan
 pub done-best : (run : Run) → Served run → run .answer .code ≡ done → BestGiven run

@@ -12,13 +12,13 @@ use Rattle.day.specs.Plan.{Plan}
 use Rattle.day.specs.Answer.{done}
 use Rattle.day.specs.Check.{Accepted}
 use Rattle.day.proofs.Cases.{give}
-use Rattle.day.proofs.Refusal.{then-next, then-clear}
+use Rattle.day.proofs.Refusal.{code-of, then-next, then-clear}
 use Rattle.day.proofs.Check.{accepted-clear}
 use Rattle.claim.specs.Claim.{Fit}
 use Rattle.claim.proofs.Claim.{fit-clear}
 use Rattle.claim.proofs.Rows.{row-at-none, row-at-here, row-at-other}
 use Rattle.ledger.specs.declared.Counts.{Counts}
-use Rattle.ledger.specs.Promise.{Ledgered}
+use Rattle.ledger.specs.Promise.{LedgerPromise}
 use Rattle.ledger.proofs.Outer.{before-first-job}
 use Rattle.demands.specs.Run.{Taken}
 use Rattle.demands.specs.Examples.{exactly, Is, Example, Shows, day-of, Each, none, one, examples}
@@ -182,10 +182,10 @@ either-fits t l =
           };
     }
 
-module _ (ledger : Ledger) (promised : (day : Day) (w : Windows) (starts : List ℕ) → Ledgered day w starts (ledger day w starts)) where
+module _ (ledger : Ledger) (promised : (day : Day) (w : Windows) (starts : List ℕ) → LedgerPromise day w starts (ledger day w starts)) where
   either-done : (t : ℕ) → t < 2 → ledger two-slots either-slot (t ∷ []) .answer .code ≡ done
   either-done t l =
-      ap (λ (a : Answer). a .code)
+      code-of
       (then-next (then-clear (accepted-clear either-accepted) (fit-clear either-slot (t ∷ []) (either-fits t l))) (ledger two-slots either-slot (t ∷ []) .answer)
       (promised two-slots either-slot (t ∷ []) .answer))
 

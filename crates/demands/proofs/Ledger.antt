@@ -8,11 +8,11 @@ use Rattle.day.specs.declared.Day.{Day}
 use Rattle.day.specs.Windows.{Windows, at}
 use Rattle.day.specs.Answer.{done}
 use Rattle.day.specs.Refusal.{_then_, Passed}
-use Rattle.day.specs.Check.{Accepted}
+use Rattle.day.specs.Check.{ListCheck, Accepted}
 use Rattle.day.proofs.Cases.{give}
 use Rattle.day.proofs.Plan.{Taker, taken-true}
 use Rattle.day.proofs.Refusal.{passed-clear, clear-first, clear-next}
-use Rattle.day.proofs.Check.{clear-accepted}
+use Rattle.day.proofs.Check.{list-is-check, clear-accepted}
 use Rattle.claim.specs.Claim.{Fit, ClaimCheck}
 use Rattle.claim.proofs.Claim.{claim-is-check, clear-fit, fit-below}
 use Rattle.claim.proofs.Rows.{row-at-own, row-at-taken, holds-job-true}
@@ -38,12 +38,12 @@ ledger-balances day w starts ledger promised code =
 
 -- what code 0 tells of a claimed plan
 module _ (day : Day) (w : Windows) (starts : List ℕ) {Next : Answer → Type 0} {a : Answer}
-    (answer : (ClaimCheck day w starts then Next) a) (code : a .code ≡ done) where
+    (answer : (ClaimCheck (ListCheck day w) w starts then Next) a) (code : a .code ≡ done) where
   accepted : Accepted day w
-  accepted = clear-accepted (clear-first (passed-clear (claim-is-check day w starts) a answer code))
+  accepted = clear-accepted (clear-first (passed-clear (claim-is-check list-is-check w starts) a answer code))
 
   fit : Fit w starts
-  fit = clear-fit w starts (clear-next (passed-clear (claim-is-check day w starts) a answer code))
+  fit = clear-fit w starts (clear-next (passed-clear (claim-is-check list-is-check w starts) a answer code))
 
 -- a row stands in a slot only if it starts there
 starter : (w : Windows) (starts : List ℕ) (t : ℕ) → Busy (plan-row w starts) t → Taker (w .count) (at starts) t

@@ -1,15 +1,14 @@
 -- Where a moved window leaves the day, an empty list, and the shifts of -32,768 and 0. Assumes nothing.
 use Prim.Native.Nat.{_+_}
 use mathlib.Core.Path.{refl, sym, _∙_}
-use mathlib.Core.Logic.{⊎-elim}
 use native.Mathlib.Omega.{arith}
 use lib.IntN.{negsuc}
 use Rattle.day.specs.Windows.{windows, at}
 use Rattle.day.specs.Answer.{says, leaves-day}
 use Rattle.day.specs.Refusal.{stops, goes-on}
 use Rattle.day.proofs.Cases.{on-le}
-use Rattle.day.proofs.Refusal.{then-unique, then-clear}
-use Rattle.day.proofs.Check.{good-rows-clear}
+use Rattle.day.proofs.Refusal.{then-unique}
+use Rattle.day.proofs.Check.{times-is-check, times-avoids, times-clear}
 use Rattle.moving.proofs.Moving.{move-is-check}
 use Rattle.moving.proofs.Ends.{too-early, early-stays, too-late, late-stays, smallest-leaves}
 use Rattle.moving.proofs.Unique.{empty-list-stays, zero-shift-keeps}
@@ -28,14 +27,12 @@ leaves-at-ends =
 pub moves-at-ends : MovesAtEnds
 moves-at-ends =
     record {
-      empty = λ slots by deadlines a rs ds promised. empty-list-stays promised;
+      empty = λ slots by deadlines a rs ds promised. empty-list-stays (times-avoids (omega arith)) promised;
       smallest = λ slots releases deadlines a rs ds tried some.
-          then-unique (move-is-check slots (negsuc 32767) (windows releases deadlines)) (λ x y s t. s ∙ sym t) a (says leaves-day 1 0)
+          then-unique (move-is-check times-is-check slots (negsuc 32767) (windows releases deadlines)) (λ x y s t. s ∙ sym t) a (says leaves-day 1 0)
           (tried .promised .answer)
           (stops
-          (goes-on
-          (then-clear (λ b r. ⊎-elim (λ z. omega (arith, tried .some-slots)) (λ z. omega (arith, tried .slots-taken)) (r .fault))
-          (good-rows-clear (tried .rows)))
+          (goes-on (times-clear (tried .some-slots) (tried .slots-taken) (tried .rows))
           (record {
             row = 0;
             first =
@@ -49,5 +46,6 @@ moves-at-ends =
             says = refl;
           })));
       zero = λ slots releases deadlines a rs ds tried.
-          zero-shift-keeps (tried .some-slots) (tried .slots-taken) (tried .rows) (tried .promised);
+          zero-shift-keeps times-is-check (times-clear (tried .some-slots) (tried .slots-taken) (tried .rows)) (tried .rows .in-day)
+          (tried .promised);
     }

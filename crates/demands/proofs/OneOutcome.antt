@@ -38,15 +38,15 @@ one-outcome =
       plan = λ day w starts table x y p q.
           give (plan-unique day w starts table (x .0) (y .0) (x .1) (x .2) (y .1) (y .2) p q)
           (λ s. all-same x y (s .0) (s .1) (s .2));
-      judge = judged-unique;
-      price = priced-unique;
-      which = chosen-unique;
-      choose = handed-unique;
+      judge = λ day w. judged-unique list-is-check w;
+      price = λ day w. priced-unique list-is-check day w;
+      which = λ day w. chosen-unique list-is-check day w;
+      choose = λ day w. handed-unique list-is-check day w;
       next-job = next-unique;
-      ledger = ledgered-unique;
-      slot = shown-unique;
+      ledger = λ day w. ledgered-unique list-is-check day w;
+      slot = λ day w. shown-unique list-is-check day w;
       move-list = λ slots by releases deadlines x y p q.
-          give (moved-list-unique p q) (λ s. all-same x y (s .0) (s .1) (s .2));
+          give (moved-list-unique times-is-check p q) (λ s. all-same x y (s .0) (s .1) (s .2));
       read = λ file releases deadlines x y p q. give (read-unique p q) (λ s. all-same x y (s .0) (s .1) (s .2));
       write = λ notes day releases deadlines file x y p q. give (written-unique p q) (λ s. both-same x y (s .0) (s .1));
       move-jobs = λ slots by jobs x y p q.

@@ -14,8 +14,10 @@ use Rattle.day.specs.declared.Day.{Day}
 use Rattle.day.specs.Windows.{Windows, windows, at}
 use Rattle.day.specs.Plan.{Plan}
 use Rattle.day.specs.Answer.{says, done, no-plan}
+use Rattle.day.specs.Check.{ListCheck}
 use Rattle.day.proofs.Cases.{on-eq}
-use Rattle.day.proofs.Decided.{Decided}
+use Rattle.day.proofs.Check.{list-is-check}
+use Rattle.day.proofs.Decided.{Decided, list-decided}
 use Rattle.planner.specs.Promise.{PlanCheck}
 use Rattle.planner.proofs.Promise.{plan-is-check, plan-decided}
 use Rattle.claim.specs.Claim.{ClaimCheck}
@@ -135,37 +137,37 @@ first-placed invent = (
 -- the ledger that takes its counts from nowhere
 
 -- all slots before the first job, whatever the plan
-planless-by : (day : Day) (w : Windows) (starts : List ℕ) → Decided (ClaimCheck day w starts) → LedgerAnswer
+planless-by : (day : Day) (w : Windows) (starts : List ℕ) → Decided (ClaimCheck (ListCheck day w) w starts) → LedgerAnswer
 planless-by day w starts (inl refusal) = record { answer = refusal .0; counts = no-counts }
 planless-by day w starts (inr clear) =
     record { answer = says done 0 0; counts = record { before = day .slots; job = 0; awake = 0; asleep = 0; after = 0 } }
 
 planless : Ledger
-planless day w starts = planless-by day w starts (claim-decided day w starts)
+planless day w starts = planless-by day w starts (claim-decided (list-decided day w) w starts)
 
 accepted-counts : (day : Day) (w : Windows) (starts : List ℕ) → planless day w starts .answer .code ≡ done
     → planless day w starts .counts ≡ record { before = day .slots; job = 0; awake = 0; asleep = 0; after = 0 }
 unfolding planless planless-by
-accepted-counts day w starts = by (claim-decided day w starts)
+accepted-counts day w starts = by (claim-decided (list-decided day w) w starts)
   where
-    by : (d : Decided (ClaimCheck day w starts)) → planless-by day w starts d .answer .code ≡ done
+    by : (d : Decided (ClaimCheck (ListCheck day w) w starts)) → planless-by day w starts d .answer .code ≡ done
         → planless-by day w starts d .counts ≡ record { before = day .slots; job = 0; awake = 0; asleep = 0; after = 0 }
-    by (inl refusal) code = absurd (claim-is-check day w starts .not-done (refusal .0) (refusal .1) code)
+    by (inl refusal) code = absurd (claim-is-check list-is-check w starts .not-done (refusal .0) (refusal .1) code)
     by (inr clear) code = refl
 
-refused-counts : (day : Day) (w : Windows) (starts : List ℕ) (b : Answer) → ClaimCheck day w starts b
+refused-counts : (day : Day) (w : Windows) (starts : List ℕ) (b : Answer) → ClaimCheck (ListCheck day w) w starts b
     → planless day w starts ≡ record { answer = b; counts = no-counts }
 unfolding planless planless-by
-refused-counts day w starts b refused = by (claim-decided day w starts)
+refused-counts day w starts b refused = by (claim-decided (list-decided day w) w starts)
   where
-    by : (d : Decided (ClaimCheck day w starts)) → planless-by day w starts d ≡ record { answer = b; counts = no-counts }
+    by : (d : Decided (ClaimCheck (ListCheck day w) w starts)) → planless-by day w starts d ≡ record { answer = b; counts = no-counts }
     by (inl refusal) =
         ap (λ (a : Answer). record { answer = a; counts = no-counts })
-        (claim-is-check day w starts .one (refusal .0) b (refusal .1) refused)
+        (claim-is-check list-is-check w starts .one (refusal .0) b (refusal .1) refused)
     by (inr clear) = absurd (clear b refused)
 
 pub counts-without-plan : (ledger : Ledger) × Planless ledger
-    × ((day : Day) (w : Windows) (starts : List ℕ) (b : Answer) → ClaimCheck day w starts b
+    × ((day : Day) (w : Windows) (starts : List ℕ) (b : Answer) → ClaimCheck (ListCheck day w) w starts b
     → ledger day w starts ≡ record { answer = b; counts = no-counts })
 counts-without-plan = (
   planless,

@@ -8,10 +8,11 @@ use Rattle.day.specs.declared.Day.{Day}
 use Rattle.day.specs.Windows.{Windows, windows, at}
 use Rattle.day.specs.Plan.{Plan}
 use Rattle.day.specs.Answer.{done, no-plan}
+use Rattle.day.specs.Check.{ListCheck}
 use Rattle.claim.specs.Claim.{ClaimCheck}
 use Rattle.planner.specs.Promise.{PlanCheck}
 use Rattle.ledger.specs.declared.LedgerAnswer.{LedgerAnswer}
-use Rattle.ledger.specs.Promise.{no-counts, Ledgered}
+use Rattle.ledger.specs.Promise.{no-counts, LedgerPromise}
 use Rattle.demands.specs.Run.{Run, list, Promised, Taken}
 
 -- what goes into a planner
@@ -91,10 +92,10 @@ Planless ledger =
 
 -- as for the planners
 pub record PlanlessRuledOut : Type 0 where
-  pub breaks : (ledger : Ledger) → Planless ledger → ((day : Day) (w : Windows) (starts : List ℕ) → Ledgered day w starts (ledger day w starts))
+  pub breaks : (ledger : Ledger) → Planless ledger → ((day : Day) (w : Windows) (starts : List ℕ) → LedgerPromise day w starts (ledger day w starts))
       → ⊥
   pub exists : (ledger : Ledger) × Planless ledger
-      × ((day : Day) (w : Windows) (starts : List ℕ) (b : Answer) → ClaimCheck day w starts b
+      × ((day : Day) (w : Windows) (starts : List ℕ) (b : Answer) → ClaimCheck (ListCheck day w) w starts b
       → ledger day w starts ≡ record { answer = b; counts = no-counts })
 
 pub record NoImpostor : Type 0 where

@@ -13,7 +13,7 @@ use Rattle.ledger.specs.declared.SlotAnswer.{SlotAnswer}
 use Rattle.ledger.specs.declared.Counts.{Counts}
 use Rattle.ledger.specs.declared.LedgerAnswer.{LedgerAnswer}
 use Rattle.ledger.specs.Sleep.{sleeps}
-use Rattle.ledger.specs.Promise.{Ledgered, SlotShown}
+use Rattle.ledger.specs.Promise.{LedgerPromise, SlotPromise}
 
 pub record Balanced (day : Day) (w : Windows) (starts : List ℕ) (counts : Counts) : Type 0 where
   pub slots : counts .before + counts .job + counts .awake + counts .asleep + counts .after ≡ day .slots
@@ -41,7 +41,7 @@ pub record OuterSlots (day : Day) (w : Windows) (starts : List ℕ) (counts : Co
 -- of every ledger that keeps its promise, under code 0
 abbrev pub OfLedger : (Day → Windows → List ℕ → Counts → Type 0) → Type 0
 OfLedger Says =
-    (day : Day) (w : Windows) (starts : List ℕ) (ledger : LedgerAnswer) → Ledgered day w starts ledger
+    (day : Day) (w : Windows) (starts : List ℕ) (ledger : LedgerAnswer) → LedgerPromise day w starts ledger
     → ledger .answer .code ≡ done
     → Says day w starts (ledger .counts)
 
@@ -54,7 +54,7 @@ LedgerOuter = OfLedger OuterSlots
 -- a slot in which a row starts is shown with the job and its row
 abbrev pub RowShown : Type 0
 RowShown =
-    (day : Day) (w : Windows) (starts : List ℕ) (asked : ℕ) (shown : SlotAnswer) → SlotShown day w starts asked shown
+    (day : Day) (w : Windows) (starts : List ℕ) (asked : ℕ) (shown : SlotAnswer) → SlotPromise day w starts asked shown
     → shown .answer .code ≡ done
     → (i : ℕ) → i < w .count → at starts i ≡ asked
     → shown .held ≡ record { slot = asked; fill = Job (i + 1) }

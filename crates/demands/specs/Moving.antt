@@ -10,14 +10,14 @@ use Rattle.day.specs.Windows.{at, windows}
 use Rattle.day.specs.Answer.{says, done, leaves-day}
 use Rattle.day.specs.Change.{Shifts}
 use Rattle.day.specs.Check.{most-slots, most-jobs, GoodRows, Accepted}
-use Rattle.moving.specs.Moving.{Outside, MovedList}
+use Rattle.moving.specs.Moving.{Outside, MovePromise}
 use Rattle.demands.specs.Run.{Run, list, Served}
 
 -- two runs on one day, the second on the list that moving made of the first: it kept its promise, and accepted
 pub record Moves (by : ℤ) (run other : Run) : Type 0 where
   pub day : other .day ≡ run .day
   pub answer : Answer
-  pub promised : MovedList (run .day .slots) by (run .releases) (run .deadlines) answer (other .releases) (other .deadlines)
+  pub promised : MovePromise (run .day .slots) by (run .releases) (run .deadlines) answer (other .releases) (other .deadlines)
   pub accepted : answer .code ≡ done
 
 -- checks 1 to 4 accept it too
@@ -51,11 +51,11 @@ pub record Tried (slots : ℕ) (by : ℤ) (releases deadlines : List ℕ) (a : A
   pub some-slots : 0 < slots
   pub slots-taken : slots ≤ most-slots
   pub rows : GoodRows most-jobs slots (windows releases deadlines)
-  pub promised : MovedList slots by releases deadlines a releases-after deadlines-after
+  pub promised : MovePromise slots by releases deadlines a releases-after deadlines-after
 
 pub record MovesAtEnds : Type 0 where
   -- an empty list never gets 18
-  pub empty : (slots : ℕ) (by : ℤ) (deadlines : List ℕ) (a : Answer) (rs ds : List ℕ) → MovedList slots by [] deadlines a rs ds
+  pub empty : (slots : ℕ) (by : ℤ) (deadlines : List ℕ) (a : Answer) (rs ds : List ℕ) → MovePromise slots by [] deadlines a rs ds
       → a .code ≡ leaves-day → ⊥
   -- by -32,768 slots every other list leaves, with its first row
   pub smallest : (slots : ℕ) (releases deadlines : List ℕ) (a : Answer) (rs ds : List ℕ)

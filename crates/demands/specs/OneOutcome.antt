@@ -14,11 +14,11 @@ use Rattle.day.specs.Refusal.{_then_, Passed}
 use Rattle.day.specs.Check.{SlotsCheck, PowerCheck, JobsCheck, TimesCheck, ListCheck}
 use Rattle.day.specs.Numbering.{Numbering}
 use Rattle.planner.specs.Promise.{PlanPromise}
-use Rattle.claim.specs.Claim.{Priced}
+use Rattle.claim.specs.Claim.{PricePromise}
 use Rattle.claim.specs.Rows.{NextJob, Judged}
-use Rattle.claim.specs.Choice.{Chosen, HandedBack, SamePart}
-use Rattle.ledger.specs.Promise.{Ledgered, SlotShown}
-use Rattle.moving.specs.Moving.{MovedList}
+use Rattle.claim.specs.Choice.{ChoicePromise, PartPromise, SamePart}
+use Rattle.ledger.specs.Promise.{LedgerPromise, SlotPromise}
+use Rattle.moving.specs.Moving.{MovePromise}
 use Rattle.dayfile.specs.declared.Reading.{Reading}
 use Rattle.dayfile.specs.Reader.{Read}
 use Rattle.dayfile.specs.Writer.{Written}
@@ -44,18 +44,18 @@ pub record OneOutcome : Type 0 where
   pub plan : (day : Day) (w : Windows) (starts table : List ℕ)
       → AtMostOne {A = Answer × List ℕ × List ℕ} (λ o. PlanPromise day w starts table (o .0) (o .1) (o .2))
   -- claim
-  pub judge : (day : Day) (w : Windows) (starts : List ℕ) → AtMostOne (Judged day w starts)
-  pub price : (day : Day) (w : Windows) (starts : List ℕ) → AtMostOne (Priced day w starts)
-  pub which : (day : Day) (w : Windows) (own server : List ℕ) → AtMostOne (Chosen day w own server)
-  pub choose : (day : Day) (w : Windows) (own server part other : RefT (List ℕ)) → HandedBack day w own server part
-      → HandedBack day w own server other → SamePart part other
+  pub judge : (day : Day) (w : Windows) (starts : List ℕ) → AtMostOne (Judged (ListCheck day w) w starts)
+  pub price : (day : Day) (w : Windows) (starts : List ℕ) → AtMostOne (PricePromise day w starts)
+  pub which : (day : Day) (w : Windows) (own server : List ℕ) → AtMostOne (ChoicePromise day w own server)
+  pub choose : (day : Day) (w : Windows) (own server part other : RefT (List ℕ)) → PartPromise day w own server part
+      → PartPromise day w own server other → SamePart part other
   pub next-job : (rows : List ℕ) (from : ℕ) → AtMostOne (NextJob rows from)
   -- ledger
-  pub ledger : (day : Day) (w : Windows) (starts : List ℕ) → AtMostOne (Ledgered day w starts)
-  pub slot : (day : Day) (w : Windows) (starts : List ℕ) (asked : ℕ) → AtMostOne (SlotShown day w starts asked)
+  pub ledger : (day : Day) (w : Windows) (starts : List ℕ) → AtMostOne (LedgerPromise day w starts)
+  pub slot : (day : Day) (w : Windows) (starts : List ℕ) (asked : ℕ) → AtMostOne (SlotPromise day w starts asked)
   -- moving
   pub move-list : (slots : ℕ) (by : ℤ) (releases deadlines : List ℕ)
-      → AtMostOne {A = Answer × List ℕ × List ℕ} (λ o. MovedList slots by releases deadlines (o .0) (o .1) (o .2))
+      → AtMostOne {A = Answer × List ℕ × List ℕ} (λ o. MovePromise slots by releases deadlines (o .0) (o .1) (o .2))
   -- dayfile
   pub read : (file releases deadlines : List ℕ)
       → AtMostOne {A = Reading × List ℕ × List ℕ} (λ o. Read file releases deadlines (o .0) (o .1) (o .2))
@@ -64,7 +64,7 @@ pub record OneOutcome : Type 0 where
   -- jobs: the record forms that write a list, and the slot's record in numbers; what the others promise is a promise above, at the list's windows
   pub move-jobs : (slots : ℕ) (by : ℤ) (jobs : List Job)
       → AtMostOne {A = Answer × List Job}
-      (λ o. MovedList slots by (releases jobs) (deadlines jobs) (o .0) (releases (o .1)) (deadlines (o .1)))
+      (λ o. MovePromise slots by (releases jobs) (deadlines jobs) (o .0) (releases (o .1)) (deadlines (o .1)))
   pub read-jobs : (file : List ℕ) (jobs : List Job)
       → AtMostOne {A = Reading × List Job} (λ o. Read file (releases jobs) (deadlines jobs) (o .0) (releases (o .1)) (deadlines (o .1)))
   pub slot-numbers : (day : Day) (w : Windows) (starts : List ℕ) (asked : ℕ) → AtMostOne (SlotNumbered day w starts asked)
