@@ -18,7 +18,7 @@ use Rattle.day.proofs.Check.{list-is-check, clear-accepted}
 use Rattle.day.proofs.Decided.{Known, Decided, above-known, then-decided, refuses-decided, refuses-row-decided, refuses-pair-decided}
 use Rattle.claim.specs.Claim.{Fit, Outside, Together, LengthCheck, WindowsCheck, ApartCheck, StartsCheck, ClaimCheck, plan-cost, PricedStarts}
 use Rattle.claim.specs.declared.Claimed.{Claimed}
-use Rattle.claim.specs.Rows.{Placed, Judged}
+use Rattle.claim.specs.Rows.{Judged}
 use Rattle.claim.proofs.Rows.{Cut, rows-cut}
 
 pub length-is-check : (w : Windows) (starts : List ℕ) → IsCheck (LengthCheck w starts)

@@ -5,7 +5,6 @@ use mathlib.Core.List.{List, [], _∷_, _++_, map}
 use mathlib.Core.Logic.{inl}
 use native.Mathlib.Omega.{arith}
 use lib.ListN.{length, getD, drop, replicate, length-replicate}
-use Rattle.day.specs.declared.Answer.{Answer}
 use Rattle.day.specs.declared.Day.{Day}
 use Rattle.day.specs.Windows.{Windows, windows, at}
 use Rattle.day.specs.Plan.{Plan}

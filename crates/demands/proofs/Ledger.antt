@@ -1,13 +1,13 @@
 -- The ledger balances and its outer slots, and a row's slot, from the ledger's laws. Assumes nothing.
-use Prim.Native.Nat.{ℕ, suc, _+_, _-_, _≤_, _<_}
-use mathlib.Core.Path.{_≡_, refl, sym, _∙_, ap}
+use Prim.Native.Nat.{ℕ, _<_}
+use mathlib.Core.Path.{_≡_, sym, _∙_}
 use mathlib.Core.List.{List}
 use native.Mathlib.Omega.{arith}
 use Rattle.day.specs.declared.Answer.{Answer}
 use Rattle.day.specs.declared.Day.{Day}
 use Rattle.day.specs.Windows.{Windows, at}
 use Rattle.day.specs.Answer.{done}
-use Rattle.day.specs.Refusal.{_then_, Passed}
+use Rattle.day.specs.Refusal.{_then_}
 use Rattle.day.specs.Check.{ListCheck, Accepted}
 use Rattle.day.proofs.Cases.{give}
 use Rattle.day.proofs.Plan.{Taker, taken-true}
@@ -16,16 +16,14 @@ use Rattle.day.proofs.Check.{list-is-check, clear-accepted}
 use Rattle.claim.specs.Claim.{Fit, ClaimCheck}
 use Rattle.claim.proofs.Claim.{claim-is-check, clear-fit, fit-below}
 use Rattle.claim.proofs.Rows.{row-at-own, row-at-taken, holds-job-true}
-use Rattle.ledger.specs.declared.SlotFill.{SlotFill}
-use Rattle.ledger.specs.declared.Counts.{Counts}
-use Rattle.ledger.specs.Fills.{Empty, Busy}
+use Rattle.ledger.specs.Fills.{Busy}
 use Rattle.ledger.specs.Promise.{plan-row}
 use Rattle.ledger.proofs.Column.{five-add-up}
 use Rattle.ledger.proofs.Cost.{cost-of-ledger}
 use Rattle.ledger.proofs.Fills.{not-busy, fills-unique}
 use Rattle.ledger.proofs.Outer.{before-first-job, after-last-job, no-jobs}
 use Rattle.ledger.proofs.Promise.{row-fills}
-use Rattle.demands.specs.Ledger.{all-before, StartsFirst, StartsLast, OuterSlots, LedgerBalances, LedgerOuter, RowShown}
+use Rattle.demands.specs.Ledger.{LedgerBalances, LedgerOuter, RowShown}
 
 pub ledger-balances : LedgerBalances
 ledger-balances day w starts ledger promised code =

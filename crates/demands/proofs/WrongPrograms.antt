@@ -22,7 +22,6 @@ use Rattle.planner.specs.Promise.{PlanCheck}
 use Rattle.planner.proofs.Promise.{plan-is-check, plan-decided}
 use Rattle.claim.specs.Claim.{ClaimCheck}
 use Rattle.claim.proofs.Claim.{claim-is-check, claim-decided}
-use Rattle.ledger.specs.declared.Counts.{Counts}
 use Rattle.ledger.specs.declared.LedgerAnswer.{LedgerAnswer}
 use Rattle.ledger.specs.Promise.{no-counts}
 use Rattle.demands.specs.Run.{Taken}

@@ -9,12 +9,12 @@ use Rattle.day.specs.declared.Answer.{Answer}
 use Rattle.day.specs.declared.Day.{Day}
 use Rattle.day.specs.Windows.{Windows, windows, at}
 use Rattle.day.specs.Answer.{says, done, no-plan, long-input}
-use Rattle.day.specs.Refusal.{_then_, stops, goes-on, Refuses}
+use Rattle.day.specs.Refusal.{_then_, stops, goes-on}
 use Rattle.day.specs.Check.{Accepted, ListCheck, most-jobs}
 use Rattle.day.specs.Planned.{Planned}
-use Rattle.day.proofs.Cases.{on-eq, on-le}
-use Rattle.day.proofs.Refusal.{code-of, Avoids, refuses-avoids, passed-avoids, then-avoids, then-clear, then-group, then-next, passed-clear, clear-first, clear-next, no-fault, past}
-use Rattle.day.proofs.Check.{clear-accepted, accepted-clear}
+use Rattle.day.proofs.Cases.{on-eq}
+use Rattle.day.proofs.Refusal.{code-of, Avoids, refuses-avoids, passed-avoids, then-avoids, then-clear, then-group, then-next, passed-clear, past}
+use Rattle.day.proofs.Check.{accepted-clear}
 use Rattle.day.proofs.Planned.{planned-refused}
 use Rattle.dayfile.specs.declared.Reading.{Reading}
 use Rattle.dayfile.specs.Format.{count-in, release-in, deadline-in}
@@ -25,7 +25,7 @@ use Rattle.claim.specs.Claim.{ClaimCheck}
 use Rattle.claim.proofs.Claim.{fit-clear}
 use Rattle.planner.specs.Table.{need}
 use Rattle.planner.specs.Promise.{PlanCheck}
-use Rattle.planner.proofs.Promise.{plan-is-check}
+use Rattle.planner.proofs.Promise.{plan-is-check, list-accepted, enough-starts}
 use Rattle.ledger.specs.declared.LedgerAnswer.{LedgerAnswer}
 use Rattle.ledger.specs.Promise.{LedgerPromise}
 use Rattle.report.specs.declared.Outcome.{Outcome}
@@ -49,12 +49,10 @@ module _ {day : Day} {w : Windows} {starts table p t : List ℕ} {n : ℕ} {a : 
   found-clear = passed-clear (plan-is-check day w starts table) a (A .answer) e
 
   pub found-accepted : Accepted day w
-  found-accepted = clear-accepted (clear-first found-clear)
+  found-accepted = list-accepted day w starts table found-clear
 
   found-long : w .count ≤ length p
-  found-long =
-      on-le (w .count) (length starts) (λ h. omega (arith, A .planned e .long))
-      (λ h. absurd (no-fault (clear-first (clear-next found-clear)) h))
+  found-long = omega (arith, A .planned e .long, enough-starts day w starts table found-clear)
 
   found-claim-clear : (b : Answer) → ClaimCheck (ListCheck day w) w p b → ⊥
   found-claim-clear =
