@@ -90,7 +90,8 @@ fit-clear w starts fit =
     )))
 
 -- a plan that was judged and not refused is fit
-pub passed-fit : (w : Windows) (starts : List ℕ) (a : Answer) → (StartsCheck w starts then Passed) a → a .code ≡ done → Fit w starts
+pub passed-fit : {Next : Answer → Type 0} (w : Windows) (starts : List ℕ) (a : Answer) → (StartsCheck w starts then Next) a
+    → a .code ≡ done → Fit w starts
 passed-fit w starts a p e = clear-fit w starts (passed-clear (starts-is-check w starts) a p e)
 
 -- the starts of a fit plan are slots of the day
@@ -109,10 +110,7 @@ passed-accepted a p e = clear-accepted (passed-clear list-is-check a p e)
 -- pricing answers 0 exactly for a fit plan, and then with its cost
 pub priced-fit : (day : Day) (w : Windows) (starts : List ℕ) (a : Answer) → PricedStarts day w starts a → a .code ≡ done
     → Fit w starts × (a .first ≡ plan-cost day w starts)
-priced-fit day w starts a p e = (
-  clear-fit w starts (passed-clear (starts-is-check w starts) a p e),
-  ap (λ (x : Answer). x .first) (then-done (starts-is-check w starts) a p e),
-)
+priced-fit day w starts a p e = (passed-fit w starts a p e, ap (λ (x : Answer). x .first) (then-done (starts-is-check w starts) a p e))
 
 pub priced-unfit : (day : Day) (w : Windows) (starts : List ℕ) (a : Answer) → PricedStarts day w starts a
     → (a .code ≡ done → ⊥) → Fit w starts → ⊥

@@ -12,7 +12,7 @@ use Rattle.day.specs.Windows.{Windows}
 use Rattle.day.specs.Plan.{Plan}
 use Rattle.day.specs.Answer.{says, done}
 use Rattle.day.proofs.Cases.{on-eq, on-le}
-use Rattle.day.proofs.Refusal.{IsCheck, code-of, then-unique}
+use Rattle.day.proofs.Refusal.{IsCheck, code-of, then-unique, passed-unique}
 use Rattle.claim.specs.declared.Claimed.{Claimed}
 use Rattle.claim.specs.Claim.{Priced}
 use Rattle.claim.specs.Rows.{RowsBySlot, NextJob, Judged}
@@ -46,7 +46,7 @@ pub judged-unique : {Check : Answer → Type 0} → IsCheck Check → (w : Windo
 judged-unique check w starts c d p q = rw (same-answer, same-rows)
   where
     same-answer : c .answer ≡ d .answer
-    same-answer = then-unique (claim-is-check check w starts) (λ a b e f. e ∙ sym f) (c .answer) (d .answer) (p .answer) (q .answer)
+    same-answer = passed-unique (claim-is-check check w starts) (c .answer) (d .answer) (p .answer) (q .answer)
 
     same-rows : c .rows ≡ d .rows
     same-rows =

@@ -56,13 +56,12 @@ module _ (Check : Answer → Type 0) (need : ℕ) (day : Day) (w : Windows) (sta
     kept = λ e f. refl;
   }
 
+  -- an outcome that other checks allow
+  pub planned-by : {Other : Answer → Type 0} {a : Answer} {p t : List ℕ} → (Check then Verdict day w) a
+      → Planned Other need day w starts table a p t → Planned Check need day w starts table a p t
+  planned-by answer A = record { answer = answer; planned = A .planned; unplanned = A .unplanned; cleared = A .cleared; kept = A .kept }
+
   -- where the checks refuse nothing, a plan without checks is a plan
   pub planned-checked : (a : Answer) (p t : List ℕ) → ((b : Answer) → Check b → ⊥) → Planned Never need day w starts table a p t
       → Planned Check need day w starts table a p t
-  planned-checked a p t clear A = record {
-    answer = goes-on clear (then-next never-clear a (A .answer));
-    planned = A .planned;
-    unplanned = A .unplanned;
-    cleared = A .cleared;
-    kept = A .kept;
-  }
+  planned-checked a p t clear A = planned-by (goes-on clear (then-next never-clear a (A .answer))) A

@@ -104,12 +104,6 @@ no-fault {code} clear f = clear (says code 0 0) (record { fault = f; says = refl
 pub past : {code : ℕ} {Fault : Type 0} {Next : Answer → Type 0} {a : Answer} → (Fault → ⊥) → Next a → (Refuses code Fault then Next) a
 past clear next = goes-on (λ b r. clear (r .fault)) next
 
--- where the answer is `done` there was no fault, and what comes next answered
-pub past-done : {code : ℕ} {Fault : Type 0} {Next : Answer → Type 0} {a : Answer} → (code ≡ done → ⊥) → a .code ≡ done
-    → (Refuses code Fault then Next) a → (Fault → ⊥) × Next a
-past-done h e (stops p) = absurd (h (rw (p .says) at e))
-past-done h e (goes-on clear q) = (no-fault clear, q)
-
 -- a row at fault would be refused
 pub no-row-at-fault : {code n : ℕ} {Fault : ℕ → Type 0} → ((i : ℕ) → Fault i ⊎ (Fault i → ⊥))
     → ((b : Answer) → RefusesRow code n Fault b → ⊥) → (i : ℕ) → i < n → Fault i → ⊥
@@ -169,22 +163,28 @@ module _ {Check : Answer → Type 0} where
   then-unique k f a b (goes-on n p) (stops q) = absurd (n b q)
   then-unique k f a b (goes-on n p) (goes-on m q) = f a b p q
 
+  pub passed-unique : IsCheck Check → (a b : Answer) → (Check then Passed) a → (Check then Passed) b → a ≡ b
+  passed-unique k = then-unique k (λ a b p q. p ∙ sym q)
+
   -- the answer of a check that refused is the answer of the whole
   pub then-refused : {Next : Answer → Type 0} (a : Answer) → (Check then Passed) a → (a .code ≡ done → ⊥) → (Check then Next) a
   then-refused a (stops p) h = stops p
   then-refused a (goes-on n p) h = absurd (h (code-of p))
 
+  -- before an answer with a code that the check never has, it had nothing to refuse
+  pub avoids-clear : {code : ℕ} {Next : Answer → Type 0} → Avoids code Check → (a : Answer) → (Check then Next) a → a .code ≡ code
+      → (b : Answer) → Check b → ⊥
+  avoids-clear f a (stops p) e = absurd (f a p e)
+  avoids-clear f a (goes-on n p) e = n
+
+  pub passed-clear : {Next : Answer → Type 0} → IsCheck Check → (a : Answer) → (Check then Next) a → a .code ≡ done → (b : Answer)
+      → Check b → ⊥
+  passed-clear k = avoids-clear (k .not-done)
+
   -- after a check that passed, what comes next answers
   pub then-passed : {Next : Answer → Type 0} → IsCheck Check → (a b : Answer) → (Check then Passed) a → a .code ≡ done → Next b
       → (Check then Next) b
-  then-passed k a b (stops p) e q = absurd (k .not-done a p e)
-  then-passed k a b (goes-on n p) e q = goes-on n q
-
-  -- before an answer of `done` the check had nothing to refuse
-  pub passed-clear : {Next : Answer → Type 0} → IsCheck Check → (a : Answer) → (Check then Next) a → a .code ≡ done → (b : Answer)
-      → Check b → ⊥
-  passed-clear k a (stops p) e = absurd (k .not-done a p e)
-  passed-clear k a (goes-on n p) e = n
+  then-passed k a b p e = goes-on (passed-clear k a p e)
 
   -- past a check that has nothing to refuse
   pub then-next : {Next : Answer → Type 0} → ((b : Answer) → Check b → ⊥) → (a : Answer) → (Check then Next) a → Next a
@@ -219,3 +219,8 @@ module _ {Check : Answer → Type 0} where
   then-group a (stops p) = stops (stops p)
   then-group a (goes-on n (stops p)) = stops (goes-on n p)
   then-group a (goes-on n (goes-on m p)) = goes-on (then-clear n m) p
+
+-- where the answer is `done` there was no fault, and what comes next answered
+pub past-done : {code : ℕ} {Fault : Type 0} {Next : Answer → Type 0} {a : Answer} → (code ≡ done → ⊥) → a .code ≡ done
+    → (Refuses code Fault then Next) a → (Fault → ⊥) × Next a
+past-done h e p = (no-fault (passed-clear (refuses-is-check h) _ p e), then-done (refuses-is-check h) _ p e)

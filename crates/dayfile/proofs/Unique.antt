@@ -7,7 +7,7 @@ use Rattle.day.specs.declared.Answer.{Answer}
 use Rattle.day.specs.declared.Day.{Day}
 use Rattle.day.specs.Answer.{done}
 use Rattle.day.proofs.Cases.{on-eq, give}
-use Rattle.day.proofs.Refusal.{code-of, refuses-is-check, then-unique}
+use Rattle.day.proofs.Refusal.{code-of, refuses-is-check, then-unique, passed-unique}
 use Rattle.day.proofs.FirstFilled.{filled-unique}
 use Rattle.dayfile.specs.declared.Reading.{Reading}
 use Rattle.dayfile.specs.Reader.{no-reading, FileCheck, Read}
@@ -20,13 +20,11 @@ file-check-unique file room =
     (then-unique (refuses-is-check (λ e. omega arith))
     (then-unique (refuses-is-check (λ e. omega arith))
     (then-unique (refuses-is-check (λ e. omega arith))
-    (then-unique (refuses-is-check (λ e. omega arith))
-    (then-unique (refuses-is-check (λ e. omega arith)) (λ a b p q. p ∙ sym q))))))
+    (then-unique (refuses-is-check (λ e. omega arith)) (passed-unique (refuses-is-check (λ e. omega arith)))))))
 
 room-check-unique : (m n room : ℕ) (a b : Answer) → RoomCheck m n room a → RoomCheck m n room b → a ≡ b
 room-check-unique m n room =
-    then-unique (refuses-is-check (λ e. omega arith))
-    (then-unique (refuses-is-check (λ e. omega arith)) (λ a b p q. p ∙ sym q))
+    then-unique (refuses-is-check (λ e. omega arith)) (passed-unique (refuses-is-check (λ e. omega arith)))
 
 reading-ext : (r q : Reading) → r .answer ≡ q .answer → r .count ≡ q .count → r .day ≡ q .day → r ≡ q
 reading-ext r q a c d = let same : reading-of (r .answer) (r .count) (r .day) ≡ q = rw (a, c, d) in same

@@ -11,11 +11,11 @@ use Rattle.day.specs.Plan.{Plan, NoPlan}
 use Rattle.day.specs.Gap.{cost}
 use Rattle.day.specs.Best.{Best}
 use Rattle.day.specs.Answer.{says, done, short-table, no-plan}
-use Rattle.day.specs.Refusal.{_then_, stops, goes-on}
+use Rattle.day.specs.Refusal.{stops, goes-on}
 use Rattle.day.specs.Check.{most-jobs, GoodRows, Accepted}
 use Rattle.day.specs.Planned.{Verdict, costs, none-proper}
 use Rattle.day.proofs.Cases.{give}
-use Rattle.day.proofs.Refusal.{code-of, past, then-unique, then-next, then-clear}
+use Rattle.day.proofs.Refusal.{code-of, past, then-unique, avoids-clear, passed-clear, then-next, then-clear}
 use Rattle.day.proofs.Check.{accepted-clear}
 use Rattle.day.proofs.Best.{best-unique, best-costs}
 use Rattle.day.proofs.Planned.{verdict-unique}
@@ -77,29 +77,22 @@ best-or-none run served =
     given run (served .promised) (then-next (taken-clear run (served .taken)) (run .answer) (served .promised .answer))
 
 pub answers-taken : AnswersTaken
-answers-taken run promised code = taken-by (promised .answer)
-  where
-    taken-by : (PlanCheck (run .day) (list run) (run .starts) (run .table) then Verdict (run .day) (list run)) (run .answer) → Taken run
-    taken-by (stops p) =
-        absurd (⊎-elim (plan-is-check (run .day) (list run) (run .starts) (run .table) .not-done (run .answer) p)
-        (check-not-no-plan (run .day) (list run) (run .starts) (run .table) (run .answer) (stops p)) code)
-    taken-by (goes-on clear p) =
-        record {
-          accepted = list-accepted (run .day) (list run) (run .starts) (run .table) clear;
-          places = enough-starts (run .day) (list run) (run .starts) (run .table) clear;
-          table = enough-table (run .day) (list run) (run .starts) (run .table) clear;
-        }
-
-pub best-code : (run : Run) → BestGiven run → run .answer .code ≡ done
-best-code run given = code-of (given .answer)
-
-pub none-code : (run : Run) → NoneGiven run → run .answer .code ≡ no-plan
-none-code run given = code-of (given .answer)
+answers-taken run promised code =
+    give
+    (⊎-elim (passed-clear (plan-is-check (run .day) (list run) (run .starts) (run .table)) (run .answer) (promised .answer))
+    (avoids-clear (λ a p. check-not-no-plan (run .day) (list run) (run .starts) (run .table) a (stops p)) (run .answer) (promised .answer))
+    code)
+    (λ clear.
+    record {
+      accepted = list-accepted (run .day) (list run) (run .starts) (run .table) clear;
+      places = enough-starts (run .day) (list run) (run .starts) (run .table) clear;
+      table = enough-table (run .day) (list run) (run .starts) (run .table) clear;
+    })
 
 -- code 0 comes with the best plan
 pub done-best : (run : Run) → Served run → run .answer .code ≡ done → BestGiven run
 done-best run served code =
-    ⊎-elim (λ b. b) (λ n. absurd (omega (arith, none-code run n))) (best-or-none run served)
+    ⊎-elim (λ b. b) (λ n. absurd (omega (arith, code-of (n .answer)))) (best-or-none run served)
 
 -- what is given, on a day that is the same
 pub record GivenOn (day : Day) (run : Run) : Type 0 where
@@ -114,8 +107,8 @@ seven-exactly run served =
     ⊎-elim
     (λ b.
     record {
-      only-if = λ code. absurd (omega (arith, best-code run b));
+      only-if = λ code. absurd (omega (arith, code-of (b .answer)));
       whenever = λ none. absurd (none (at (run .starts-after)) (b .best .proper));
     })
-    (λ n. record { only-if = λ code. n .none; whenever = λ none. none-code run n })
+    (λ n. record { only-if = λ code. n .none; whenever = λ none. code-of (n .answer) })
     (best-or-none run served)

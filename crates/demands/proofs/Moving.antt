@@ -9,13 +9,14 @@ use Rattle.day.specs.Answer.{says, done}
 use Rattle.day.specs.Change.{Moved}
 use Rattle.day.specs.Check.{Accepted}
 use Rattle.day.proofs.Cases.{give}
+use Rattle.day.proofs.Refusal.{code-of}
 use Rattle.day.proofs.Moved.{moved-no-plan, no-plan-moved, moved-starts, moved-best-cost}
 use Rattle.moving.proofs.Moving.{acceptable}
 use Rattle.moving.proofs.Unique.{shifts-unique}
 use Rattle.demands.specs.Run.{Run, list, Served}
 use Rattle.demands.specs.BestPlan.{BestOrNone}
 use Rattle.demands.specs.Moving.{Moves, MovedAccepted, MovedAnswer, MovingKeeps}
-use Rattle.demands.proofs.BestPlan.{accepted-too, best-or-none, none-code, given-on}
+use Rattle.demands.proofs.BestPlan.{accepted-too, best-or-none, given-on}
 
 module _ (by : ℤ) (run other : Run) (moves : Moves by run other) where
   moved : Moved by (list run) (list other)
@@ -77,7 +78,7 @@ module _ (by : ℤ) (run other : Run) (moves : Moves by run other) (old : Served
   keeps (inr n) (inr m) =
       record {
         answer = m .answer ∙ sym (n .answer);
-        starts = λ code. absurd (omega (arith, none-code run n));
+        starts = λ code. absurd (omega (arith, code-of (n .answer)));
       }
 
 pub moving-keeps : MovingKeeps

@@ -1,13 +1,13 @@
 -- Where a moved window leaves the day, an empty list, and the shifts of -32,768 and 0. Assumes nothing.
 use Prim.Native.Nat.{_+_}
-use mathlib.Core.Path.{refl, sym, _∙_}
+use mathlib.Core.Path.{refl}
 use native.Mathlib.Omega.{arith}
 use lib.IntN.{negsuc}
 use Rattle.day.specs.Windows.{windows, at}
 use Rattle.day.specs.Answer.{says, leaves-day}
 use Rattle.day.specs.Refusal.{stops, goes-on}
 use Rattle.day.proofs.Cases.{on-le}
-use Rattle.day.proofs.Refusal.{then-unique}
+use Rattle.day.proofs.Refusal.{passed-unique}
 use Rattle.day.proofs.Check.{times-is-check, times-avoids, times-clear}
 use Rattle.moving.proofs.Moving.{move-is-check}
 use Rattle.moving.proofs.Ends.{too-early, early-stays, too-late, late-stays, smallest-leaves}
@@ -29,7 +29,7 @@ moves-at-ends =
     record {
       empty = λ slots by deadlines a rs ds promised. empty-list-stays (times-avoids (omega arith)) promised;
       smallest = λ slots releases deadlines a rs ds tried some.
-          then-unique (move-is-check times-is-check slots (negsuc 32767) (windows releases deadlines)) (λ x y s t. s ∙ sym t) a (says leaves-day 1 0)
+          passed-unique (move-is-check times-is-check slots (negsuc 32767) (windows releases deadlines)) a (says leaves-day 1 0)
           (tried .promised .answer)
           (stops
           (goes-on (times-clear (tried .some-slots) (tried .slots-taken) (tried .rows))

@@ -1,9 +1,7 @@
 -- Two outcomes that satisfy a promise are equal, cited from the crates that make the promises. Assumes nothing.
-use mathlib.Core.Path.{_≡_, sym, _∙_}
-use Rattle.day.specs.declared.Answer.{Answer}
-use Rattle.day.specs.Refusal.{_then_, Passed}
+use mathlib.Core.Path.{_≡_}
 use Rattle.day.proofs.Cases.{give}
-use Rattle.day.proofs.Refusal.{IsCheck, then-unique}
+use Rattle.day.proofs.Refusal.{passed-unique}
 use Rattle.day.proofs.Check.{slots-is-check, power-is-check, jobs-is-check, times-is-check, list-is-check}
 use Rattle.day.proofs.Numbering.{numbering-unique}
 use Rattle.planner.proofs.Promise.{plan-unique}
@@ -14,11 +12,7 @@ use Rattle.dayfile.proofs.Unique.{read-unique, written-unique}
 use Rattle.jobs.proofs.Unique.{moved-jobs-unique, read-jobs-unique, slot-numbers-unique}
 use Rattle.report.proofs.Lines.{prints-unique}
 use Rattle.report.proofs.Unique.{file-reported-unique, file-printed-unique}
-use Rattle.demands.specs.OneOutcome.{AtMostOne, OneOutcome}
-
--- a check that passes or refuses
-check-unique : {Check : Answer → Type 0} → IsCheck Check → AtMostOne (Check then Passed)
-check-unique check = then-unique check (λ a b p q. p ∙ sym q)
+use Rattle.demands.specs.OneOutcome.{OneOutcome}
 
 both-same : {A B : Type 0} (x y : A × B) → x .0 ≡ y .0 → x .1 ≡ y .1 → x ≡ y
 both-same x y a b = rw (a, b)
@@ -29,11 +23,11 @@ all-same x y a b c = rw (a, b, c)
 pub one-outcome : OneOutcome
 one-outcome =
     record {
-      check-slots = λ limit slots. check-unique slots-is-check;
-      check-power = λ power. check-unique power-is-check;
-      check-rows = λ limit slots w. check-unique jobs-is-check;
-      check-times = λ slots w. check-unique times-is-check;
-      check-list = λ day w. check-unique list-is-check;
+      check-slots = λ limit slots. passed-unique slots-is-check;
+      check-power = λ power. passed-unique power-is-check;
+      check-rows = λ limit slots w. passed-unique jobs-is-check;
+      check-times = λ slots w. passed-unique times-is-check;
+      check-list = λ day w. passed-unique list-is-check;
       number-rows = numbering-unique;
       plan = λ day w starts table x y p q.
           give (plan-unique day w starts table (x .0) (y .0) (x .1) (x .2) (y .1) (y .2) p q)

@@ -14,6 +14,7 @@ use Rattle.day.specs.Gap.{cost}
 use Rattle.day.specs.Answer.{done}
 use Rattle.day.specs.Change.{beside, joined, joining, Apart}
 use Rattle.day.proofs.Cases.{give}
+use Rattle.day.proofs.Refusal.{code-of}
 use Rattle.day.proofs.Plan.{same-rows-turned, proper-cong, no-plan-cong}
 use Rattle.day.proofs.Best.{best-cong, best-costs, best-unique}
 use Rattle.day.proofs.Joined.{on-row, beside-first, beside-after}
@@ -23,7 +24,7 @@ use Rattle.demands.specs.Run.{Run, list, Served}
 use Rattle.demands.specs.BestPlan.{BestGiven}
 use Rattle.demands.specs.SideBySide.{Joins, SideBySide, SevenOfEither, JoinsSideBySide, JoinsSeven}
 use Rattle.demands.proofs.Joined.{append-beside}
-use Rattle.demands.proofs.BestPlan.{best-or-none, best-code, none-code, done-best, GivenOn, given-on, seven-exactly}
+use Rattle.demands.proofs.BestPlan.{best-or-none, done-best, GivenOn, given-on, seven-exactly}
 
 -- a list that begins with n places of one and then m places of another
 take-beside : (n m : ℕ) (xs ys zs : List ℕ) → n ≤ length xs → m ≤ length ys → n + m ≤ length zs
@@ -86,7 +87,7 @@ module _ (g : ℕ) (first second whole : Run) (joins : Joins g first second whol
         (same-rows-turned pair (list whole) (joins .rows)) (λ i l. refl) (e .best))
         (λ there.
         record {
-          code = best-code whole d;
+          code = code-of (d .answer);
           same =
               best-unique (first .day) pair
               (beside (list first .count) p q) r (both .best) there;
@@ -143,7 +144,7 @@ module _ (g : ℕ) (first second whole : Run) (joins : Joins g first second whol
               (λ none.
               ⊎-elim
               (λ b. inr (seven-exactly second two .whenever (rest-no-plan apart none p (b .best .proper))))
-              (λ n. inl (none-code first n))
+              (λ n. inl (code-of (n .answer)))
               (best-or-none first one));
           of-first = λ code.
               seven-exactly whole all .whenever

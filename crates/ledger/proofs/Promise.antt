@@ -10,7 +10,7 @@ use Rattle.day.specs.Windows.{Windows, at}
 use Rattle.day.specs.Answer.{done}
 use Rattle.day.specs.Refusal.{_then_, Passed}
 use Rattle.day.proofs.Cases.{give, on-eq, on-le}
-use Rattle.day.proofs.Refusal.{IsCheck, refuses-is-check, then-unique, then-done, passed-clear, no-fault}
+use Rattle.day.proofs.Refusal.{IsCheck, refuses-is-check, then-unique, passed-unique, then-done, passed-clear, no-fault}
 use Rattle.claim.specs.Claim.{Fit}
 use Rattle.claim.proofs.Claim.{claim-is-check}
 use Rattle.claim.proofs.Rows.{row-at-own}
@@ -39,7 +39,7 @@ pub ledgered-unique : {Check : Answer → Type 0} → IsCheck Check → (day : D
 ledgered-unique check day w starts a b p q = rw (same-answer, same-counts)
   where
     same-answer : a .answer ≡ b .answer
-    same-answer = then-unique (claim-is-check check w starts) (λ x y e f. e ∙ sym f) (a .answer) (b .answer) (p .answer) (q .answer)
+    same-answer = passed-unique (claim-is-check check w starts) (a .answer) (b .answer) (p .answer) (q .answer)
 
     same-counts : a .counts ≡ b .counts
     same-counts =
@@ -71,8 +71,7 @@ shown-unique check day w starts asked a b p q =
   where
     same-answer : a .answer ≡ b .answer
     same-answer =
-        then-unique (claim-is-check check w starts) (then-unique (asked-is-check day asked) (λ x y e f. e ∙ sym f)) (a .answer)
-        (b .answer) (p .answer) (q .answer)
+        then-unique (claim-is-check check w starts) (passed-unique (asked-is-check day asked)) (a .answer) (b .answer) (p .answer) (q .answer)
 
 -- a row of a fit plan fills the slot in which it starts
 pub row-fills : (power : Power) (slots : ℕ) (w : Windows) (starts : List ℕ) → Fit w starts → (i : ℕ) → i < w .count

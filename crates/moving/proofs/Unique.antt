@@ -12,7 +12,7 @@ use Rattle.day.specs.Change.{Shifts}
 use Rattle.day.specs.Answer.{says, done, leaves-day}
 use Rattle.day.specs.Refusal.{goes-on}
 use Rattle.day.proofs.Cases.{give, on-eq}
-use Rattle.day.proofs.Refusal.{code-of, Avoids, passed-avoids, then-avoids, IsCheck, then-unique, then-clear}
+use Rattle.day.proofs.Refusal.{code-of, Avoids, passed-avoids, then-avoids, IsCheck, passed-unique, then-clear}
 use Rattle.day.proofs.FirstFilled.{filled-unique}
 use Rattle.moving.specs.Moving.{RowsMoved, MovedList}
 use Rattle.moving.specs.Steps.{FirstMoved}
@@ -45,7 +45,7 @@ pub moved-list-unique : {Check : Answer → Type 0} {slots : ℕ} {by : ℤ} {re
     → IsCheck Check → MovedList Check slots by releases deadlines a rs ds → MovedList Check slots by releases deadlines b rs-other ds-other
     → (a ≡ b) × (rs ≡ rs-other) × (ds ≡ ds-other)
 moved-list-unique {slots = slots} {by} {releases} {deadlines} {a = a} {b} check p q =
-    give (then-unique (move-is-check check slots by (windows releases deadlines)) (λ x y s t. s ∙ sym t) a b (p .answer) (q .answer))
+    give (passed-unique (move-is-check check slots by (windows releases deadlines)) a b (p .answer) (q .answer))
     (λ same.
     on-eq (a .code) done
     (λ e. give (rows-moved-unique (p .accepted e) (q .accepted (sym (code-of same) ∙ e))) (λ lists. (same, lists .0, lists .1)))

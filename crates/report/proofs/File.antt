@@ -15,7 +15,7 @@ use Rattle.day.specs.Planned.{Planned}
 use Rattle.day.proofs.Cases.{on-eq}
 use Rattle.day.proofs.Refusal.{code-of, Avoids, refuses-avoids, passed-avoids, then-avoids, then-clear, then-group, then-next, passed-clear, past}
 use Rattle.day.proofs.Check.{accepted-clear}
-use Rattle.day.proofs.Planned.{planned-refused}
+use Rattle.day.proofs.Planned.{planned-refused, planned-by}
 use Rattle.dayfile.specs.declared.Reading.{Reading}
 use Rattle.dayfile.specs.Format.{count-in, release-in, deadline-in}
 use Rattle.dayfile.specs.Reader.{FilledFrom, FileCheck, Read}
@@ -81,14 +81,7 @@ checked-reported : {Check Next : Answer → Type 0} {day : Day} {w : Windows} {s
     → ((b : Answer) → Check b → ⊥) → Reported Next day w starts table o p t → Reported (Check then Next) day w starts table o p t
 checked-reported {o = o} clear R =
     record {
-      plan =
-          record {
-            answer = then-group (o .answer) (goes-on clear (R .plan .answer));
-            planned = R .plan .planned;
-            unplanned = R .plan .unplanned;
-            cleared = R .plan .cleared;
-            kept = R .plan .kept;
-          };
+      plan = planned-by _ _ _ _ _ _ (then-group (o .answer) (goes-on clear (R .plan .answer))) (R .plan);
       count = R .count;
       counts = R .counts;
       refused = R .refused;
