@@ -1,4 +1,5 @@
--- The words of document 01, as definitions. Start with Windows, Plan, Gap and Best; Answer and Refusal say how an entry point answers.
+-- The words of document 01, as definitions. Start with Windows, Plan, Gap and Best; Answer and Refusal say how an entry point answers,
+-- Planned what any planner promises.
 pub mod Windows
 pub mod Plan
 pub mod Gap
