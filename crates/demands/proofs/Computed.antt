@@ -25,8 +25,9 @@ use Rattle.rule.specs.Span.{in-span, clear, may-split, value-by, value, sides, 
 use Rattle.rule.specs.Whole.{whole, whole-back, Ready}
 use Rattle.rule.proofs.Whole.{whole-none, whole-best}
 use Rattle.planner.specs.Table.{need}
-use Rattle.planner.specs.Promise.{costs, none-proper, Planned, PlanCheck}
-use Rattle.planner.proofs.Promise.{planned-refused}
+use Rattle.day.specs.Planned.{costs, none-proper, Planned}
+use Rattle.planner.specs.Promise.{PlanCheck}
+use Rattle.day.proofs.Planned.{planned-refused}
 use Rattle.demands.proofs.Test.{Test, less, at-most, equal, both, either, any-of, through, differ, is-less, all-below, same-numbers, same-from, same-answer}
 use Rattle.demands.proofs.ExamplesChecked.{Judge, judge-then, judge-whole, judge-list}
 

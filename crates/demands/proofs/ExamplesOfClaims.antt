@@ -11,6 +11,7 @@ use Rattle.day.specs.Windows.{Windows, at}
 use Rattle.day.specs.Plan.{MayStart, taken}
 use Rattle.day.specs.Gap.{price, ended, gaps-since, gaps, total, cost}
 use Rattle.day.specs.Answer.{says, done}
+use Rattle.day.specs.Check.{ListCheck}
 use Rattle.claim.specs.Claim.{Fit, Outside, Together, StartsCheck, ClaimCheck, plan-cost}
 use Rattle.claim.specs.Choice.{own-plan, server-plan, own-wins, server-wins, NamesWinner, NeitherCheck}
 use Rattle.claim.proofs.Claim.{clear-fit}
@@ -60,7 +61,7 @@ judge-starts w starts =
     judge-then (judge-whole _ (is-less (length starts) (w .count)))
     (judge-then (judge-row _ (w .count) (outside w starts)) (judge-pair _ (w .count) (together starts)))
 
-abbrev pub judge-claim : (day : Day) (w : Windows) (starts : List ℕ) → Judge (ClaimCheck day w starts)
+abbrev pub judge-claim : (day : Day) (w : Windows) (starts : List ℕ) → Judge (ClaimCheck (ListCheck day w) w starts)
 judge-claim day w starts = judge-then (judge-list day w) (judge-starts w starts)
 
 abbrev price-test : (claim : Claim) (a : Answer) → Test (CostsAs claim a)

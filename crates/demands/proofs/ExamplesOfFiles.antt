@@ -33,7 +33,7 @@ use Rattle.dayfile.specs.Format.{
 }
 use Rattle.dayfile.specs.Reader.{no-reading, FilledFrom, FileCheck, RowsRead, NothingRead, Read}
 use Rattle.dayfile.specs.Writer.{file-length, RoomCheck, Stored}
-use Rattle.ledger.specs.Promise.{no-counts, Ledgered}
+use Rattle.ledger.specs.Promise.{no-counts, LedgerPromise}
 use Rattle.report.specs.declared.Outcome.{Outcome}
 use Rattle.report.specs.declared.text.Text.{Text}
 use Rattle.report.specs.Decimal.{digits, decimal}
@@ -178,7 +178,7 @@ nothing-planned o n counts = rw (n, counts)
 
 -- a plan has its rows and its ledger, a refusal neither
 abbrev rows-and-counts : (day : Day) (w : Windows) (starts : List ℕ) (o : Outcome)
-    → Test ((o .answer .code ≡ done → (o .count ≡ w .count) × Ledgered day w starts (record { answer = says done 0 0; counts = o .counts }))
+    → Test ((o .answer .code ≡ done → (o .count ≡ w .count) × LedgerPromise day w starts (record { answer = says done 0 0; counts = o .counts }))
     × ((o .answer .code ≡ done → ⊥) → o ≡ no-outcome (o .answer)))
 rows-and-counts day w starts o =
     by-equal (o .answer .code) done

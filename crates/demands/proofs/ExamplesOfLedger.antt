@@ -21,7 +21,7 @@ use Rattle.ledger.specs.declared.SlotFill.{SlotFill}
 use Rattle.ledger.specs.declared.SlotAnswer.{SlotAnswer}
 use Rattle.ledger.specs.Fills.{Empty, InGap, Fills, by-job, before-first, after-last, in-awake, in-asleep}
 use Rattle.ledger.specs.Count.{none, column, CountedTo, Counted}
-use Rattle.ledger.specs.Promise.{plan-row, no-counts, no-slot, Ledgered}
+use Rattle.ledger.specs.Promise.{plan-row, no-counts, no-slot, LedgerPromise}
 use Rattle.ledger.proofs.InGap.{in-gap}
 use Rattle.ledger.proofs.Column.{gain, counted-block}
 use Rattle.demands.specs.ExamplesOfLedger.{ledger-examples, LedgerExamplesHold, Asked, FilledAs, slot-examples, SlotExamplesHold}
@@ -139,7 +139,7 @@ counted power slots row c =
     (both (all-below (λ t. fills power slots row t (fill-at power slots row t)) slots)
     (same-counts c (tally power slots row (fill-at power slots row) slots)))
 
-abbrev pub ledger-test : (day : Day) (w : Windows) (starts : List ℕ) (answered : LedgerAnswer) → Test (Ledgered day w starts answered)
+abbrev pub ledger-test : (day : Day) (w : Windows) (starts : List ℕ) (answered : LedgerAnswer) → Test (LedgerPromise day w starts answered)
 ledger-test day w starts answered =
     through (λ f. record { answer = f .0; accepted = f .1 .0; refused = f .1 .1 })
     (both (answers (judge-claim day w starts) (none-left .answer) (answered .answer))

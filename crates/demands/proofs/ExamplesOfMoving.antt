@@ -9,7 +9,8 @@ use Rattle.day.specs.declared.Answer.{Answer}
 use Rattle.day.specs.Windows.{Windows, windows, at}
 use Rattle.day.specs.Change.{Shifts}
 use Rattle.day.specs.Answer.{done}
-use Rattle.moving.specs.Moving.{LeavesDay, MoveCheck, RowsMoved, MovedList}
+use Rattle.day.specs.Check.{TimesCheck}
+use Rattle.moving.specs.Moving.{LeavesDay, MoveCheck, RowsMoved, MovePromise}
 use Rattle.moving.proofs.Signs.{below, not-below}
 use Rattle.demands.specs.ExamplesTable.{releases-of, deadlines-of}
 use Rattle.demands.specs.ExamplesOfMoving.{Move, MovesTo, moved-examples, MovedExamplesHold}
@@ -47,7 +48,7 @@ abbrev leaves : (slots : ℕ) (by : ℤ) (w : Windows) (i : ℕ) → BothWays (L
 leaves slots by w i =
     is-either (is-below (pos (w .release i) +ℤ by) (pos 0)) (is-below (pos slots) (pos (w .deadline i) +ℤ by))
 
-abbrev judge-move : (slots : ℕ) (by : ℤ) (w : Windows) → Judge (MoveCheck slots by w)
+abbrev judge-move : (slots : ℕ) (by : ℤ) (w : Windows) → Judge (MoveCheck (TimesCheck slots w) slots by w)
 judge-move slots by w =
     judge-then (judge-times slots w) (judge-row _ (w .count) (leaves slots by w))
 
@@ -60,7 +61,7 @@ rows-moved by releases deadlines rs ds =
     (both (shifted by (length releases) deadlines ds) (same-from (length releases) deadlines ds)))
 
 abbrev moved-list : (slots : ℕ) (by : ℤ) (releases deadlines : List ℕ) (a : Answer) (rs ds : List ℕ)
-    → Test (MovedList slots by releases deadlines a rs ds)
+    → Test (MovePromise slots by releases deadlines a rs ds)
 moved-list slots by releases deadlines a rs ds =
     through (λ f. record { answer = f .0; accepted = f .1 .0; refused = f .1 .1 })
     (both (answers (judge-move slots by (windows releases deadlines)) (none-left .answer) a)

@@ -5,8 +5,8 @@ use lib.ListN.{replicate}
 use Rattle.day.specs.declared.Answer.{Answer}
 use Rattle.day.specs.declared.Day.{Day}
 use Rattle.day.specs.Windows.{Windows}
-use Rattle.claim.specs.Claim.{Priced}
-use Rattle.claim.specs.Choice.{Chosen}
+use Rattle.claim.specs.Claim.{PricePromise}
+use Rattle.claim.specs.Choice.{ChoicePromise}
 use Rattle.demands.specs.ExamplesTable.{answer-of, _gives_, Table, day-with, rows-of, P8}
 
 pub record Claim : Type 0 where
@@ -19,7 +19,7 @@ abbrev pub claim-of : List (ℕ × ℕ) → ℕ → ℕ → List ℕ → Claim
 claim-of jobs slots wake starts = record { day = day-with slots wake; rows = rows-of jobs; starts = starts }
 
 abbrev pub CostsAs : Claim → Answer → Type 0
-CostsAs claim = Priced (claim .day) (claim .rows) (claim .starts)
+CostsAs claim = PricePromise (claim .day) (claim .rows) (claim .starts)
 
 -- one row for each slot below n, and its start
 unfoldable pub a-row-a-slot : ℕ → List (ℕ × ℕ)
@@ -84,7 +84,7 @@ two-plans jobs slots wake own server =
 
 -- what the companion answers
 abbrev pub ChosenAs : TwoPlans → Answer → Type 0
-ChosenAs two = Chosen (two .day) (two .rows) (two .own) (two .server)
+ChosenAs two = ChoicePromise (two .day) (two .rows) (two .own) (two .server)
 
 unfoldable pub chosen-examples : List (TwoPlans × Answer)
 chosen-examples =

@@ -7,12 +7,12 @@ use Rattle.ledger.specs.declared.Fill.the-variants.{Job, Before, Awake, Asleep,
 use Rattle.ledger.specs.declared.Counts.{Counts}
 use Rattle.ledger.specs.declared.LedgerAnswer.{LedgerAnswer}
 use Rattle.ledger.specs.declared.SlotAnswer.{SlotAnswer}
-use Rattle.ledger.specs.Promise.{Ledgered, SlotShown}
+use Rattle.ledger.specs.Promise.{LedgerPromise, SlotPromise}
 use Rattle.demands.specs.ExamplesTable.{answer-of, _gives_, Table, P8}
 use Rattle.demands.specs.ExamplesOfClaims.{Claim, claim-of}
 
 abbrev pub CountedAs : Claim → LedgerAnswer → Type 0
-CountedAs claim = Ledgered (claim .day) (claim .rows) (claim .starts)
+CountedAs claim = LedgerPromise (claim .day) (claim .rows) (claim .starts)
 
 -- before, job, awake, asleep, after
 abbrev pub counts-of : ℕ → ℕ → ℕ → ℕ → ℕ → Counts
@@ -65,7 +65,7 @@ abbrev pub _at-slot_ : Claim → ℕ → Asked
 claim at-slot slot = record { claim = claim; slot = slot }
 
 abbrev pub FilledAs : Asked → SlotAnswer → Type 0
-FilledAs asked = SlotShown (asked .claim .day) (asked .claim .rows) (asked .claim .starts) (asked .slot)
+FilledAs asked = SlotPromise (asked .claim .day) (asked .claim .rows) (asked .claim .starts) (asked .slot)
 
 abbrev pub holds : ℕ → Fill → SlotAnswer
 holds slot fill = record { answer = answer-of 0 0 0; held = record { slot = slot; fill = fill } }

@@ -4,7 +4,7 @@ use mathlib.Core.List.{List, [], _∷_}
 use lib.ListN.{replicate}
 use lib.IntN.{ℤ, pos, negℤ}
 use Rattle.day.specs.declared.Answer.{Answer}
-use Rattle.moving.specs.Moving.{MovedList}
+use Rattle.moving.specs.Moving.{MovePromise}
 use Rattle.demands.specs.ExamplesTable.{answer-of, _gives_, Table, releases-of, deadlines-of}
 
 -- rows that are moved by so many slots on a day of T slots
@@ -26,7 +26,7 @@ move-of jobs slots by = record { jobs = jobs; slots = slots; by = by }
 -- the answer, with releases and deadlines afterwards
 abbrev pub MovesTo : Move → Answer × List ℕ × List ℕ → Type 0
 MovesTo move after =
-    MovedList (move .slots) (move .by) (releases-of (move .jobs)) (deadlines-of (move .jobs)) (after .0) (after .1) (after .2)
+    MovePromise (move .slots) (move .by) (releases-of (move .jobs)) (deadlines-of (move .jobs)) (after .0) (after .1) (after .2)
 
 -- code, first number, and the rows afterwards
 abbrev pub rows-after : ℕ → ℕ → List (ℕ × ℕ) → Answer × List ℕ × List ℕ
