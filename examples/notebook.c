@@ -1,6 +1,6 @@
 /* What the notebook's firmware does with a day: the list of examples/p8.day is checked, planned, priced, looked at, moved, written and read
- * back. Run, from the repository's root, after rt staticlib jobs:
- *     cc -O2 examples/notebook.c target/staticlib/libjobs.a -o target/notebook && target/notebook */
+ * back. Run, from the repository's root, after rt staticlib chaskuri:
+ *     cc -O2 examples/notebook.c target/staticlib/libchaskuri.a -o target/notebook && target/notebook */
 #include "../include/chaskuri.h"
 
 int printf(const char *, ...);

@@ -1,5 +1,5 @@
-/* Chaskuri: plans one-slot jobs on a machine that can sleep, at least cost. Link with libjobs.a, which `rt staticlib jobs` makes for x86-64; of
- * the C library it needs memcpy and memset.
+/* Chaskuri: plans one-slot jobs on a machine that can sleep, at least cost. Link with libchaskuri.a, which `rt staticlib chaskuri` makes for
+ * x86-64; of the C library it needs memcpy and memset.
  *
  * Words
  *   Day: slots 0 to slots-1, from 1 to 96 of them. Waking costs `wake`, 0 to 1000.
@@ -22,7 +22,7 @@
  *   asked: what a call cannot take it refuses by a code.
  *   No call allocates, keeps a pointer or any state, or touches memory that it was not lent: calls may run side by side in threads, as long as
  *   none writes a buffer that another was lent. Of stack chaskuri_plan takes at most 10,400 bytes, every other call less than 1,200: that is
- *   measured, by bench/stack.c with the kit rattle-kit-5b. What is said of each call below is proved, in crates/jobs. */
+ *   measured, by bench/stack.c with the kit rattle-kit-5b. What is said of each call below is proved, in crates/chaskuri. */
 #ifndef CHASKURI_H
 #define CHASKURI_H
 

@@ -9,7 +9,7 @@ use Rattle.claim.proofs.Promise.{judged-unique, priced-unique, chosen-unique, h
 use Rattle.ledger.proofs.Promise.{ledgered-unique, shown-unique}
 use Rattle.moving.proofs.Unique.{moved-list-unique}
 use Rattle.dayfile.proofs.Unique.{read-unique, written-unique}
-use Rattle.jobs.proofs.Unique.{moved-jobs-unique, read-jobs-unique, slot-numbers-unique}
+use Rattle.chaskuri.proofs.Unique.{moved-jobs-unique, read-jobs-unique, slot-numbers-unique}
 use Rattle.report.proofs.Lines.{prints-unique}
 use Rattle.report.proofs.Unique.{file-reported-unique, file-printed-unique}
 use Rattle.demands.specs.OneOutcome.{OneOutcome}

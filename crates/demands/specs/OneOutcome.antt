@@ -22,8 +22,8 @@ use Rattle.moving.specs.Moving.{MovePromise}
 use Rattle.dayfile.specs.declared.Reading.{Reading}
 use Rattle.dayfile.specs.Reader.{Read}
 use Rattle.dayfile.specs.Writer.{Written}
-use Rattle.jobs.specs.Columns.{releases, deadlines}
-use Rattle.jobs.specs.Slot.{SlotNumbered}
+use Rattle.rows.specs.Columns.{releases, deadlines}
+use Rattle.chaskuri.specs.Slot.{SlotNumbered}
 use Rattle.report.specs.declared.Outcome.{Outcome}
 use Rattle.report.specs.declared.text.Text.{Text}
 use Rattle.report.specs.Lines.{Prints}

@@ -1,0 +1,4 @@
+pub mod ByValue
+pub mod Promises
+pub mod PutPromises
+pub mod Unique

@@ -1,0 +1,3 @@
+pub mod ByValue
+pub mod Plans
+pub mod Slot

@@ -1,5 +1,0 @@
-pub mod Rows
-pub mod Columns
-pub mod ByValue
-pub mod Plans
-pub mod Slot

@@ -1,0 +1,3 @@
+-- A list of job records as columns of numbers, and its rows by value.
+pub mod Columns
+pub mod Rows
