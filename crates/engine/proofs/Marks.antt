@@ -9,7 +9,8 @@ use mathlib.Core.Bool.{true}
 use Rattle.day.proofs.Cases.{on-eq, on-le, give}
 use Rattle.rule.specs.Span.{Problem, clear}
 use Rattle.rule.proofs.Value.{clear-true, clear-intro}
-use Rattle.engine.specs.Marks.{Marked, Lowered}
+use Rattle.engine.specs.Marks.{Marked}
+use Rattle.engine.specs.steps.Lowered.{Lowered}
 
 module _ (rel : List ℕ) (n : ℕ) (old : List ℕ) where
   -- no release has lowered a mark

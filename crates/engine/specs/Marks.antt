@@ -12,10 +12,3 @@ pub record Marked (rel : List ℕ) (from n : ℕ) (old new : List ℕ) : Type 0 
       → (0 < at old t) × ((i : ℕ) → from ≤ i → i < k → at rel i ≡ t → ⊥)
   pub counted : (k t : ℕ) → k < n → t < length old → 0 < at old t → ((i : ℕ) → from ≤ i → i < k → at rel i ≡ t → ⊥)
       → k < at new t
-
--- the mark of a point is lowered, unless it is 0
-pub record Lowered (point jobs : ℕ) (old new : List ℕ) : Type 0 where
-  pub long : length new ≡ length old
-  pub here : 0 < at old point → at new point ≡ jobs
-  pub closed : at old point ≡ 0 → at new point ≡ 0
-  pub others : (t : ℕ) → (t ≡ point → ⊥) → at new t ≡ at old t

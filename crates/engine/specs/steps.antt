@@ -1,3 +1,4 @@
 -- What functions of the engine promise each other.
 pub mod Level
 pub mod Highest
+pub mod Lowered

@@ -2,7 +2,8 @@
 ghost use Prim.Native.Nat.{ℕ, _<_, _≤_};
 ghost use lib.ListN.{length};
 ghost use Rattle.day.specs.Windows.{at};
-ghost use Rattle.engine.specs.Marks.{Marked, Lowered};
+ghost use Rattle.engine.specs.Marks.{Marked};
+ghost use Rattle.engine.specs.steps.Lowered.{Lowered};
 use day::wide;
 
 // Lowers the mark of each point where a job is released, so that no higher job splits there. A point that is not allowed has mark 0

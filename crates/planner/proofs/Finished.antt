@@ -30,8 +30,8 @@ use Rattle.engine.specs.Filled.{Small, Filled}
 use Rattle.engine.specs.ReadBack.{Readable, Holds, ReadBack}
 use Rattle.engine.proofs.Places.{place-below, need-more}
 use Rattle.planner.specs.Table.{need}
-use Rattle.planner.specs.Jobs.{none, by-number, slots-of, Prepared, ProblemOf, Given, Asks}
-use Rattle.planner.specs.Finished.{Tabled, Laid, whole-value, Finished}
+use Rattle.planner.specs.steps.Jobs.{none, by-number, slots-of, Prepared, ProblemOf, Given, Asks}
+use Rattle.planner.specs.steps.Finished.{Tabled, Laid, whole-value, Finished}
 use Rattle.day.specs.Planned.{costs, none-proper, Planned, Never}
 use Rattle.planner.proofs.Table.{need-square}
 use Rattle.planner.proofs.Jobs.{far-price-bounded}

@@ -18,7 +18,7 @@ use Rattle.engine.specs.Lent.{Lent, lent}
 use Rattle.engine.specs.Marks.{Marked}
 use Rattle.engine.proofs.Places.{square-fits}
 use Rattle.engine.proofs.Marks.{marks-count, marks-counted}
-use Rattle.planner.specs.Jobs.{none, Prepared, ProblemOf, Given, Asks}
+use Rattle.planner.specs.steps.Jobs.{none, Prepared, ProblemOf, Given, Asks}
 
 pub far-price-bounded : (day : Day) → day .power .wake ≤ none → (s e : ℕ) → far-price day s e ≤ none
 far-price-bounded day wake s e =

@@ -1,5 +1,4 @@
--- What the planner's code means: the need of the table, the jobs in number order, and the promise of the entry point.
+-- What the planner promises, and the need of its table. What its functions promise each other on the way is in `steps`.
 pub mod Table
-pub mod Jobs
-pub mod Finished
 pub mod Promise
+pub mod steps

@@ -3,7 +3,7 @@ ghost use Prim.Native.Nat.{ℕ, _<_, _≤_};
 ghost use lib.ListN.{length};
 ghost use Rattle.day.specs.Windows.{at};
 ghost use Rattle.engine.specs.Written.{Written, itself};
-ghost use Rattle.planner.specs.Jobs.{by-number};
+ghost use Rattle.planner.specs.steps.Jobs.{by-number};
 
 // Puts what the rows hold into number order, as points: slots are counted from 1.
 pub(crate) fn by_number(rows: &[u16], order: &[usize], to: &mut [u16])

@@ -4,7 +4,7 @@ ghost use Prim.Native.Nat.{ℕ, _-_, _<_, _≤_};
 ghost use lib.ListN.{length};
 ghost use Rattle.day.specs.Windows.{at};
 ghost use Rattle.engine.specs.Written.{Written};
-ghost use Rattle.planner.specs.Jobs.{slots-of};
+ghost use Rattle.planner.specs.steps.Jobs.{slots-of};
 
 // The slot of a point; the far point 0 has none, and gives 0.
 fn slot_of(point: u16) -> u16

@@ -11,8 +11,8 @@ use Rattle.rule.specs.Span.{Problem}
 use Rattle.rule.specs.Whole.{without-ends}
 use Rattle.engine.specs.Lent.{Lent, lent}
 use Rattle.planner.specs.Table.{need}
-use Rattle.planner.specs.Jobs.{Asks}
-use Rattle.planner.specs.Finished.{Tabled, whole-value}
+use Rattle.planner.specs.steps.Jobs.{Asks}
+use Rattle.planner.specs.steps.Finished.{Tabled, whole-value}
 use Rattle.planner.proofs.Finished.{whole-there, table-readable, table-cleared, whole-read, whole-holds, laid-of}
 use borrow.Author.Needs.{needs}
 use Rattle.planner.proofs.finish.Statement.{statement}

@@ -6,7 +6,7 @@ use lib.ListN.{length, getD-replicate}
 use denote.Ref.{now}
 use Rattle.engine.specs.Lent.{Lent, lent}
 use Rattle.rule.specs.Span.{Problem}
-use Rattle.planner.specs.Jobs.{none, ProblemOf, Given, Asks}
+use Rattle.planner.specs.steps.Jobs.{none, ProblemOf, Given, Asks}
 use Rattle.planner.proofs.Jobs.{given-of, asks-of}
 use borrow.Author.Needs.{needs}
 use Rattle.planner.proofs.plan_numbered.Statement.{statement}

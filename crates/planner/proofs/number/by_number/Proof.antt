@@ -4,7 +4,7 @@ use mathlib.Core.Path.{_≡_, refl}
 use native.Mathlib.Omega.{arith}
 use lib.ListN.{length}
 use Rattle.engine.specs.Written.{Written, itself}
-use Rattle.planner.specs.Jobs.{by-number}
+use Rattle.planner.specs.steps.Jobs.{by-number}
 use Rattle.engine.proofs.Written.{written-none, written-more}
 use Rattle.planner.proofs.number.by_number.Statement.{statement}
 use Rattle.planner.proofs.number.by_number.Tie as tie

@@ -5,7 +5,7 @@ use native.Mathlib.Omega.{arith}
 use lib.ListN.{length}
 use Rattle.day.specs.Windows.{at}
 use Rattle.engine.specs.Written.{Written}
-use Rattle.planner.specs.Jobs.{slots-of}
+use Rattle.planner.specs.steps.Jobs.{slots-of}
 use borrow.Author.Needs.{needs}
 use Rattle.engine.proofs.Written.{written-none, written-more}
 use Rattle.planner.proofs.out.write_out.Statement.{statement}

@@ -14,7 +14,7 @@ use Rattle.rule.specs.Whole.{without-ends}
 use Rattle.engine.specs.Lent.{Lent, layout-of}
 use Rattle.engine.specs.Filled.{Level, Small}
 use Rattle.planner.specs.Table.{need}
-use Rattle.planner.specs.Jobs.{none, Asks}
+use Rattle.planner.specs.steps.Jobs.{none, Asks}
 
 -- the table holds the values of every problem that the lists pose; what n jobs don't need is as it was
 pub record Tabled (day : Day) (G : Lent) (n : ℕ) (old new : List ℕ) : Type 0 where
