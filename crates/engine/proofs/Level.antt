@@ -14,27 +14,21 @@ use Rattle.engine.specs.Places.{Layout, Span, Fits, row, place, need}
 use Rattle.engine.specs.Lent.{Lent, layout-of, Prepared, Posed}
 use Rattle.engine.specs.Filled.{Level, Priced, Small, Filled}
 use Rattle.engine.specs.Written.{Written, after, along, Apart, Rows}
-use Rattle.engine.specs.steps.Level.{one-job, with-job, Fillable, RowAdded, RowsAdded}
+use Rattle.engine.specs.steps.Level.{one-job, with-job, Copyable, Fillable, RowAdded, RowsAdded}
 use Rattle.engine.proofs.Places.{place-below, place-same, row-below, need-more}
 use Rattle.engine.proofs.Written.{written-as}
 use Rattle.engine.proofs.OneJob.{price-read, with-job-small, with-job-same, with-job-posed}
 
--- a row of one level and a row of the next
-module _ {L : Layout} (fits : Fits L) (k s below here lo hi : ℕ) (p : below ≡ row L k s) (q : here ≡ row L (k + 1) s) (l : s ≤ lo)
-    (h : hi ≤ L .points) where
-  levels-apart : Apart below here lo hi
-  levels-apart x y a b c d e =
-      let z : place L k s x ≡ place L (k + 1) s y = omega arith in
-      omega (arith, place-same fits k (k + 1) s s x y (omega arith, omega arith) (omega arith, omega arith) z)
+-- a level and the next are there
+module _ {L : Layout} {begun k : ℕ} {table : List ℕ} (c : Copyable L begun k table) (s : ℕ) (h : s < L .points) where
+  pub row-there : (i begin : ℕ) → i ≤ k + 1 → begin ≡ row L i s → begin + L .points ≤ length table
+  row-there i begin l q = omega (arith, c .room, row-below (c .fits) (k + 1) i s begin l h q)
 
-  pub copy-fits : (n : ℕ) → lo ≤ hi → s < L .points → need L (k + 1) ≤ n
-      → (lo ≤ hi) × (below + hi ≤ n) × (here + hi ≤ n) × Apart below here lo hi
-  copy-fits n o m r = (
-    o,
-    omega (arith, row-below fits (k + 1) k s below (omega arith) m p),
-    omega (arith, row-below fits (k + 1) (k + 1) s here (omega arith) m q),
-    levels-apart,
-  )
+  -- a row of the one and a row of the next
+  pub rows-apart : (below here hi : ℕ) → below ≡ row L k s → here ≡ row L (k + 1) s → hi ≤ L .points → Apart below here s hi
+  rows-apart below here hi p q u x y a b d e z =
+      let same : place L k s x ≡ place L (k + 1) s y = omega arith in
+      omega (arith, place-same (c .fits) k (k + 1) s s x y (a, omega arith) (d, omega arith) same)
 
 module _ {L : Layout} (fits : Fits L) (k : ℕ) (f : ℕ → ℕ → ℕ) where
   pub rows-none : (lo : ℕ) (old : List ℕ) → Rows L k lo lo f old old
@@ -74,24 +68,22 @@ module _ {L : Layout} (fits : Fits L) (k : ℕ) (f : ℕ → ℕ → ℕ) where
       r .outside (place L i a e) (λ s x g l w q. other (place-same fits i k a s e x v w q .0))
 
 -- one more row is copied from the level below, which no row copied before has changed
-pub copied-more : {L : Layout} → Fits L → (k lo s below here : ℕ) (old between new : List ℕ) → lo ≤ s → s < L .points
-    → below ≡ row L k s → here ≡ row L (k + 1) s → Rows L (k + 1) lo s (λ a. along old (row L k a)) old between
-    → Written (after here) s (L .points) (along between below) between new
+pub copied-more : {L : Layout} → Fits L → (k lo s : ℕ) (old between new : List ℕ) → lo ≤ s → s < L .points
+    → Rows L (k + 1) lo s (λ a. along old (row L k a)) old between
+    → Written (place L (k + 1) s) s (L .points) (along between (row L k s)) between new
     → Rows L (k + 1) lo (s + 1) (λ a. along old (row L k a)) old new
-copied-more {L} fits k lo s below here old between new g h p q r w =
+copied-more {L} fits k lo s old between new g h r w =
     rows-more fits (k + 1) (λ a. along old (row L k a)) lo s old between new g h r
-    (written-as (place L (k + 1) s) (along between below) (along old (row L k s)) s (L .points) between new
-    (λ e l u. rw p (rows-keep fits (k + 1) (λ a. along old (row L k a)) k lo s old between (λ z. omega arith) r s e (l, u)))
-    (rw q at w))
+    (written-as (place L (k + 1) s) (along between (row L k s)) (along old (row L k s)) s (L .points) between new
+    (λ e l u. rows-keep fits (k + 1) (λ a. along old (row L k a)) k lo s old between (λ z. omega arith) r s e (l, u)) w)
 
 -- rows of the next level leave the level below
 module _ {G : Lent} {old : List ℕ} {k : ℕ} (f : Fillable G old k) where
+  pub copyable : Copyable (layout-of G) (length (G .begins)) k old
+  copyable = record { fits = f .prepared .fits; rows = f .prepared .rows; room = f .room }
+
   pub released-before-end : at (G .rel) k + 1 < G .shape .points
   released-before-end = omega (arith, f .prepared .window k (omega arith), f .prepared .before-end k (omega arith))
-
-  -- the row from s is there in both levels
-  pub row-there : (i s : ℕ) → i ≤ k + 1 → s < G .shape .points → row (layout-of G) i s + G .shape .points ≤ length old
-  row-there i s h l = omega (arith, f .room, row-below (f .prepared .fits) (k + 1) i s _ h l refl)
 
   pub fillable-kept : (new : List ℕ) → length new ≡ length old
       → ((s e : ℕ) → Span (layout-of G) s e → at new (place (layout-of G) k s e) ≡ at old (place (layout-of G) k s e))
@@ -125,14 +117,12 @@ module _ {G : Lent} {old : List ℕ} {k : ℕ} (f : Fillable G old k) where
       (λ e l u. with-job-same G between k old (added-kept s between r) s e (l, u)) w)
 
   -- where job k isn't released in the span, the value of the level below is copied
-  pub row-copied : (s below here lo hi : ℕ) (new : List ℕ) → below ≡ row (layout-of G) k s → here ≡ row (layout-of G) (k + 1) s
-      → ((e : ℕ) → lo ≤ e → e < hi → In (one-job G old k) s e 0 → ⊥)
-      → Written (after here) lo hi (along old below) old new
+  pub row-copied : (s lo hi : ℕ) (new : List ℕ) → ((e : ℕ) → lo ≤ e → e < hi → In (one-job G old k) s e 0 → ⊥)
+      → Written (place (layout-of G) (k + 1) s) lo hi (along old (row (layout-of G) k s)) old new
       → Written (place (layout-of G) (k + 1) s) lo hi (with-job G old k s) old new
-  row-copied s below here lo hi new p q out w =
-      written-as (place (layout-of G) (k + 1) s) (along old below) (with-job G old k s) lo hi old new
-      (λ e a b. rw p (price-read G old k s e ∙ sym (value-out (one-job G old k) 0 s e (out e a b))))
-      (rw q at w)
+  row-copied s lo hi new out =
+      written-as (place (layout-of G) (k + 1) s) (along old (row (layout-of G) k s)) (with-job G old k s) lo hi old new
+      (λ e a b. price-read G old k s e ∙ sym (value-out (one-job G old k) 0 s e (out e a b)))
 
   -- rows that begin after the job's release are those of the level below
   pub rest-copied : (lo : ℕ) (between new : List ℕ) → at (G .rel) k < lo → lo ≤ G .shape .points → RowsAdded G k lo old between

@@ -1,7 +1,7 @@
 -- The laws of a table's places: they are below the need, and different spans have different places. Assumes nothing.
 use Prim.Native.Nat.{ℕ, _+_, _*_, _-_, _≤_, _<_}
 use mathlib.Core.Path.{_≡_}
-use native.Mathlib.Nat.{mul-le-mul-right}
+use native.Mathlib.Nat.{mul-le-mul-left, mul-le-mul-right}
 use native.Mathlib.Omega.{arith}
 use Rattle.day.proofs.Cases.{on-le, give}
 use Rattle.engine.specs.Places.{Layout, Span, Fits, row, place, need, square-begins}
@@ -34,6 +34,12 @@ module _ {L : Layout} (fits : Fits L) where
   -- a row ends below the need
   pub row-below : (n k s begin : ℕ) → k ≤ n → s < L .points → begin ≡ row L k s → begin + L .points ≤ need L n
   row-below n k s begin h l q = omega (arith, place-below n k s (L .points - 1) h (omega arith, omega arith))
+
+-- a level has a place, so that the need counts the levels
+pub levels-below : {L : Layout} → Fits L → (n : ℕ) → 0 < L .points → n < need L n
+unfolding need
+levels-below {L} fits n h =
+    omega (arith, fits .within 0 0 (omega arith, h), mul-le-mul-left {m = 1} {n = L .level} (n + 1) (omega (arith, fits .within 0 0 (omega arith, h))))
 
 pub need-more : (L : Layout) (m n : ℕ) → m ≤ n → need L m ≤ need L n
 unfolding need

@@ -99,9 +99,8 @@ fn sum_row(
     ensures { λ _. ⌜ (length (now (sums .exit)) ≡ length (now (sums .entry))) × RowAdded (lent shape (now (begins .entry)) (now (rel .entry)) (now (dead .entry)) (now (marks .entry))) job from (now (table .entry)) (now (table .exit)) ⌝ }
 {
     let after = wide(rel[job]) + 1;
-    let below = rows::row_of(shape, begins, job, from);
     let here = rows::row_of(shape, begins, job + 1, from);
-    rows::copy(&mut *table, below, here, from, after);
+    rows::copy_row(&mut *table, shape, begins, job, from, after);
     rows::put(&mut *sums, shape.none, after, shape.points);
     add_splits(
         shape,

@@ -3,7 +3,8 @@ ghost use mathlib.Core.Path.{_≡_};
 ghost use Prim.Native.Nat.{_+_, _<_, _≤_};
 ghost use lib.ListN.{length};
 ghost use Rattle.day.specs.Windows.{at};
-ghost use Rattle.engine.specs.Places.{Fits, row, place, need, layout};
+ghost use Rattle.engine.specs.Places.{row, place, layout};
+ghost use Rattle.engine.specs.steps.Level.{Copyable};
 ghost use Rattle.engine.specs.Written.{Written, after, itself, along, always, Apart, Rows};
 use crate::Shape;
 
@@ -32,7 +33,7 @@ pub fn value_at(
 }
 
 // Copies the places `lo` to `hi` of one row to another.
-pub(crate) fn copy(table: &mut [u16], from: usize, to: usize, lo: usize, hi: usize)
+fn copy(table: &mut [u16], from: usize, to: usize, lo: usize, hi: usize)
     requires { ⌜ (lo ≤ hi) × (from + hi ≤ length (now table)) × (to + hi ≤ length (now table)) × Apart from to lo hi ⌝ }
     ensures { λ _. ⌜ Written (after to) lo hi (along (now (table .entry)) from) (now (table .entry)) (now (table .exit)) ⌝ }
 {
@@ -43,6 +44,24 @@ pub(crate) fn copy(table: &mut [u16], from: usize, to: usize, lo: usize, hi: usi
     }
 }
 
+// Copies the row of the lowest `jobs` jobs from the point `from`, up to `hi`, to the next level.
+pub(crate) fn copy_row(
+    table: &mut [u16],
+    shape: Shape,
+    begins: &[usize],
+    jobs: usize,
+    from: usize,
+    hi: usize,
+)
+    requires { ⌜ Copyable (layout shape (now begins)) (length (now begins)) jobs (now table) ⌝ }
+    requires { ⌜ (from ≤ hi) × (hi ≤ shape .points) × (from < shape .points) ⌝ }
+    ensures { λ _. ⌜ Written (place (layout shape (now (begins .entry))) (jobs + 1) from) from hi (along (now (table .entry)) (row (layout shape (now (begins .entry))) jobs from)) (now (table .entry)) (now (table .exit)) ⌝ }
+{
+    let below = row_of(shape, begins, jobs, from);
+    let here = row_of(shape, begins, jobs + 1, from);
+    copy(table, below, here, from, hi);
+}
+
 // Copies the rows of the lowest `jobs` jobs from the point `first` on to the next level.
 pub(crate) fn copy_level(
     table: &mut [u16],
@@ -51,15 +70,13 @@ pub(crate) fn copy_level(
     jobs: usize,
     first: usize,
 )
-    requires { ⌜ Fits (layout shape (now begins)) ⌝ }
-    requires { ⌜ (shape .points ≤ length (now begins)) × (need (layout shape (now begins)) (jobs + 1) ≤ length (now table)) × (jobs < 18446744073709551615) × (first ≤ shape .points) ⌝ }
+    requires { ⌜ Copyable (layout shape (now begins)) (length (now begins)) jobs (now table) ⌝ }
+    requires { ⌜ first ≤ shape .points ⌝ }
     ensures { λ _. ⌜ Rows (layout shape (now (begins .entry))) (jobs + 1) first (shape .points) (λ s. along (now (table .entry)) (row (layout shape (now (begins .entry))) jobs s)) (now (table .entry)) (now (table .exit)) ⌝ }
 {
     let mut from = first;
     while from < shape.points {
-        let below = row_of(shape, begins, jobs, from);
-        let here = row_of(shape, begins, jobs + 1, from);
-        copy(&mut *table, below, here, from, shape.points);
+        copy_row(&mut *table, shape, begins, jobs, from, shape.points);
         from += 1;
     }
 }

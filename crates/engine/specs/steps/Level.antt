@@ -5,7 +5,7 @@ use lib.ListN.{length}
 use lib.Dec.{ltb}
 use Rattle.day.specs.Windows.{at}
 use Rattle.rule.specs.Span.{Problem, value}
-use Rattle.engine.specs.Places.{place, need}
+use Rattle.engine.specs.Places.{Layout, Fits, place, need}
 use Rattle.engine.specs.Lent.{Lent, layout-of, Prepared}
 use Rattle.engine.specs.Filled.{Small}
 use Rattle.engine.specs.Written.{Written, Rows}
@@ -24,6 +24,12 @@ one-job G table k =
 -- the value of the span from s to e with job k, by the level below
 abbrev pub with-job : Lent → List ℕ → ℕ → ℕ → ℕ → ℕ
 with-job G table k = value (one-job G table k) 1
+
+-- there is a place in the table for each span of the level of k jobs and of the next
+pub record Copyable (L : Layout) (begun k : ℕ) (table : List ℕ) : Type 0 where
+  pub fits : Fits L
+  pub rows : L .points ≤ begun
+  pub room : need L (k + 1) ≤ length table
 
 -- the level of k jobs has no number above `none`, and there is room for the next
 pub record Fillable (G : Lent) (table : List ℕ) (k : ℕ) : Type 0 where

@@ -3,7 +3,7 @@ use Prim.Native.Nat.{_+_}
 use native.Mathlib.Omega.{arith}
 use denote.Ref.{now}
 use Rattle.day.specs.Windows.{at}
-use Rattle.engine.proofs.Level.{released-before-end, rest-copied}
+use Rattle.engine.proofs.Level.{released-before-end, copyable, fillable-added, rest-copied}
 use borrow.Author.Needs.{needs}
 use Rattle.engine.proofs.fill.fill_level.Statement.{statement}
 use Rattle.engine.proofs.fill.fill_level.Tie as tie
@@ -25,15 +25,9 @@ add-after c = search needs
 
 copy-level-requires : tie.Need-copy-level-requires
 copy-level-requires c κs =
-    let start = c .before .before .before .before .before .before .before .before .before .before .before .before .before .before .before .before in
-    let p = start .pre .0 .prepared in (
-      p .fits,
-      (
-        p .rows,
-        omega (arith, start .pre .0 .room, c .before .before .before .before .before .before .before .sum-rows .ensures .1 .long),
-        omega (arith, p .releases),
-        omega (arith, released-before-end (start .pre .0), c .before .wide .ensures .0),
-      ),
+    let f = c .before .before .before .before .before .before .before .before .before .before .before .before .before .before .before .before .pre .0 in (
+      copyable (fillable-added f (at (now (c .before .before .before .before .before .before .before .before .before .before .before .before .before .before .before .before .args .rel)) (c .before .before .before .before .before .before .before .before .before .before .before .before .before .before .before .before .args .job) + 1) _ (c .before .before .before .before .before .before .before .sum-rows .ensures .1)),
+      omega (arith, released-before-end f, c .before .wide .ensures .0),
     )
 
 same-length : tie.Need-same-length

@@ -1,11 +1,10 @@
 -- `engine::rows::copy_level` meets its contract: the rows below `from` are copied. Assumes nothing.
 use Prim.Native.Nat.{_+_, _-_, _≤_}
-use mathlib.Core.Path.{_≡_, refl}
+use mathlib.Core.Path.{_≡_}
 use native.Mathlib.Omega.{arith}
 use Rattle.engine.specs.Places.{row, layout}
 use Rattle.engine.specs.Written.{along, Rows}
-use Rattle.engine.proofs.Places.{row-below}
-use Rattle.engine.proofs.Level.{rows-none, copy-fits, copied-more}
+use Rattle.engine.proofs.Level.{rows-none, copied-more}
 use Rattle.engine.proofs.rows.copy_level.Statement.{statement}
 use Rattle.engine.proofs.rows.copy_level.Tie as tie
 
@@ -17,34 +16,14 @@ abbrev μ-loop : tie.MeasureT-loop
 μ-loop table₀ shape begins jobs first from₀ table from = shape .points - from
 
 loop-holds : tie.Need-loop-holds Inv-loop μ-loop
-loop-holds c = (omega arith, omega arith, rows-none (c .before .before .pre .0) _ _ _ _)
+loop-holds c = (omega arith, omega arith, rows-none (c .before .before .pre .0 .fits) _ _ _ _)
 
-row-of-requires : tie.Need-row-of-requires Inv-loop μ-loop
-row-of-requires c κs =
-    let start = c .before .before .before .before .before in
-    let l = c .before .before .loop in (
-      omega (arith, start .pre .1 .0),
-      omega (arith, row-below (start .pre .0) (start .args .jobs + 1) (start .args .jobs) (l .from) _ (omega arith) (omega arith) refl),
+copy-row-requires : tie.Need-copy-row-requires Inv-loop μ-loop
+copy-row-requires c κs =
+    let able = c .before .before .before .before .before .before .pre .0 in (
+      record { fits = able .fits; rows = able .rows; room = omega (arith, able .room, c .before .before .before .loop .inv .2 .long) },
+      (omega arith, omega arith, omega arith),
     )
-
-add-row-of : tie.Need-add-row-of Inv-loop μ-loop
-add-row-of c = omega (arith, c .before .before .before .before .before .before .pre .1)
-
-row-of-requires-2 : tie.Need-row-of-requires-2 Inv-loop μ-loop
-row-of-requires-2 c κs =
-    let start = c .before .before .before .before .before .before in
-    let l = c .before .before .before .loop in (
-      omega (arith, start .pre .1 .0),
-      omega (arith, row-below (start .pre .0) (start .args .jobs + 1) (start .args .jobs + 1) (l .from) _ (omega arith) (omega arith) refl),
-    )
-
-copy-requires : tie.Need-copy-requires Inv-loop μ-loop
-copy-requires c κs =
-    let start = c .before .before .before .before .before .before .before .before in
-    let l = c .before .before .before .before .before .loop in
-    copy-fits (start .pre .0) (start .args .jobs) (l .from) (c .before .before .row-of .result) (c .before .row-of2 .result) (l .from) _
-    (c .before .before .row-of .ensures) (c .before .row-of2 .ensures) (omega arith) (omega arith) _ (omega arith) (omega arith)
-    (omega (arith, l .inv .2 .long, start .pre .1))
 
 add-from : tie.Need-add-from Inv-loop μ-loop
 add-from c = omega arith
@@ -54,13 +33,12 @@ loop-less c = omega arith
 
 loop-again : tie.Need-loop-again Inv-loop μ-loop
 loop-again c =
-    let start = c .before .before .before .before .before .before .before .before .before .before .before in
-    let a = start .args in
-    let l = c .before .before .before .before .before .before .before .before .loop in (
+    let start = c .before .before .before .before .before .before .before .before .before in
+    let l = c .before .before .before .before .before .before .loop in (
       omega arith,
       omega arith,
-      copied-more (start .pre .0) (a .jobs) (a .first) (l .from) (c .before .before .before .before .before .row-of .result) (c .before .before .before .before .row-of2 .result) _ _ _ (omega arith)
-          (omega arith) (c .before .before .before .before .before .row-of .ensures) (c .before .before .before .before .row-of2 .ensures) (l .inv .2) (c .before .before .copy .ensures),
+      copied-more (start .pre .0 .fits) (start .args .jobs) (start .args .first) (l .from) _ _ _ (omega arith) (omega arith) (l .inv .2)
+          (c .before .before .copy-row .ensures),
     )
 
 same-length : tie.Need-same-length Inv-loop μ-loop
@@ -78,10 +56,7 @@ copy-level-spec =
     Inv-loop
     μ-loop
     loop-holds
-    row-of-requires
-    add-row-of
-    row-of-requires-2
-    copy-requires
+    copy-row-requires
     add-from
     loop-less
     loop-again
