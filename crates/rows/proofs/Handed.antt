@@ -94,13 +94,13 @@ module _ {M : Type 1} (𝓤 : URA M) (H : Heap 𝓤) (𝓜 : Model 𝓤 H) (𝓖
 
   module _ (g : Name) (φ : (κs : Lfts (suc n)) (a : Args (T .signature) κs) → Res (T .signature) κs → Lasts T κs a → SProp 𝓤) (c : Clauses 𝓤 T) (fn : Fn) where
     -- g, on the rows of the list, promises φ
-    abbrev pub Promises : Type 1
+    abbrev Promises : Type 1
     Promises = (κs : Lfts (suc n)) (qs : Shares n) (a : Args (T .signature) κs) (v : Val)
         → ent 𝓤 (sep 𝓤 (sep 𝓤 (toks 𝓤 A n (κs .1) qs) (sem 𝓤 H A (owns (kinds (bs ++ the-rows ∷ ss) κs) (on-rows κs ss bs a) (vals-with κs ss bs a v)))) (fact 𝓤 (Placed (rows κs a))))
         (C g (flat (kinds (bs ++ the-rows ∷ ss) κs) (vals-with κs ss bs a v)) (Left κs a (φ κs a) (toks 𝓤 A n (κs .1) qs)))
 
     -- the entry point's MIR runs `copy_out` and then g
-    abbrev pub Hands : Type 2
+    abbrev Hands : Type 2
     Hands = (κs : Lfts (suc n)) (a : Args (T .signature) κs) (K : Val → SProp 𝓤) → Typeds ps κs a
         → ent 𝓤 (gets 𝓤 H C #copy-out (the-list {n = n} .val κs (list-in κs ss bs a) ∷ vint w64 0 ∷ []) rowsTy (λ v. gets 𝓤 H C g (flat (kinds (bs ++ the-rows ∷ ss) κs) (vals-with κs ss bs a v)) (X .ty) K))
         (WpFn 𝓤 H C (loops 𝓤 H 𝓜 𝓖 𝓡 env) fn (flat (kinds ps κs) (vals ps κs a)) K)

@@ -11,7 +11,7 @@ use Rattle.rows.specs.declared.Rows.{Rows}
 abbrev pub none : Job
 none = record { release = 0; deadline = 0 }
 
--- how many rows of a list of n are copied from one on: those that there are, as far as there is a place
+-- how many rows of a list of n are copied from row `from` on, counted from 0: those that there are, as far as there is a place
 abbrev pub copied : ℕ → ℕ → ℕ
 copied n from = min 41 (n - from)
 
@@ -35,7 +35,7 @@ abbrev pub rows-from : Rows → ℕ → List Job → Rows
 rows-from rows zero js = rows
 rows-from rows (suc k) js = with-job (rows-from rows k js) k (getD js k none)
 
--- the rows of a list from one on, at most 41 of them
+-- the rows of a list from row `from` on, at most 41 of them
 abbrev pub rows-of : ℕ → List Job → Rows
 rows-of from js = rows-from (no-rows (copied (length js) from)) (copied (length js) from) (drop from js)
 

@@ -12,7 +12,7 @@ pub struct Rows {
     pub deadlines: [u16; 41],
 }
 
-// How many rows of a list are copied from a row on: those that there are, as far as there is a place.
+// How many rows of a list are copied from row `from` on, counted from 0: those that there are, as far as there is a place.
 fn rows_copied(len: usize, from: usize) -> usize
     ensures { λ r. ⌜ r ≡ copied len from ⌝ }
 {
@@ -46,7 +46,7 @@ fn with_job(rows: Rows, at: usize, job: Job) -> Rows
     next
 }
 
-// The rows of a list from one on, at most 41 of them.
+// The rows of a list from row `from` on, at most 41 of them.
 pub fn copy_out(jobs: &[Job], from: usize) -> Rows
     ensures { λ r. ⌜ r ≡ rows-of from (now (jobs .entry)) ⌝ }
 {
