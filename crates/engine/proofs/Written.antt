@@ -1,12 +1,13 @@
 -- The laws of `Written`: nothing is written at first, a store writes one place more, and runs join. Assumes nothing.
 use Prim.Native.Nat.{ℕ, _+_, _≤_, _<_}
-use mathlib.Core.Path.{_≡_, refl, _∙_}
+use mathlib.Core.Path.{_≡_, refl, sym, _∙_}
 use mathlib.Core.List.{List}
 use native.Mathlib.Omega.{arith}
 use lib.ListN.{length, set, length-set}
-use lib.Seq.{getD-set-same, getD-set-other}
+use lib.Seq.{getD-set-same, getD-set-other, ext-getD}
 use Rattle.day.proofs.Cases.{on-le, on-eq}
-use Rattle.engine.specs.Written.{Written}
+use Rattle.engine.specs.Written.{Written, itself, always}
+use Rattle.day.specs.Windows.{at}
 
 module _ (place : ℕ → ℕ) (f : ℕ → ℕ) where
   pub written-none : (lo : ℕ) (old : List ℕ) → Written place lo lo f old old
@@ -36,3 +37,35 @@ module _ (place : ℕ → ℕ) (f : ℕ → ℕ) where
       → Written place lo hi f old new → Written place lo hi g old new
   written-as g lo hi old new same w =
       record { long = w .long; inside = λ e h u. w .inside e h u ∙ same e h u; outside = w .outside }
+
+-- new is old, save between lo and hi
+pub record KeptBut (lo hi : ℕ) (old new : List ℕ) : Type 0 where
+  pub long : length new ≡ length old
+  pub outside : (j : ℕ) → (lo ≤ j → j < hi → ⊥) → at new j ≡ at old j
+
+pub kept-all : (lo hi : ℕ) (old : List ℕ) → KeptBut lo hi old old
+kept-all lo hi old = record { long = refl; outside = λ j n. refl }
+
+pub kept-written : (lo mid hi : ℕ) (f : ℕ → ℕ) (old between new : List ℕ) → lo ≤ mid → KeptBut lo hi old between
+    → Written itself mid hi f between new → KeptBut lo hi old new
+kept-written lo mid hi f old between new h k w = record {
+  long = w .long ∙ k .long;
+  outside = λ j n. w .outside j (λ e l u q. n (omega arith) (omega arith)) ∙ k .outside j n;
+}
+
+pub kept-as : (lo hi : ℕ) (f : ℕ → ℕ) (old new : List ℕ) → KeptBut lo hi old new → ((e : ℕ) → lo ≤ e → e < hi → at new e ≡ f e)
+    → Written itself lo hi f old new
+kept-as lo hi f old new k inside =
+    record { long = k .long; inside = inside; outside = λ j n. k .outside j (λ l u. n j l u refl) }
+
+-- what was written and taken back leaves no trace
+pub written-undone : (lo hi v : ℕ) (f : ℕ → ℕ) (old between new : List ℕ) → ((e : ℕ) → e < hi → at old e ≡ v)
+    → Written itself lo hi f old between → Written itself lo hi (always v) between new → new ≡ old
+written-undone lo hi v f old between new blank w u =
+    ext-getD 0 new old (u .long ∙ w .long)
+    (λ e h.
+    on-le lo e
+    (λ l. on-le hi e
+    (λ m. u .outside e (λ x a b q. omega arith) ∙ w .outside e (λ x a b q. omega arith))
+    (λ m. u .inside e l m ∙ sym (blank e m)))
+    (λ l. u .outside e (λ x a b q. omega arith) ∙ w .outside e (λ x a b q. omega arith)))

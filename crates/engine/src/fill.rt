@@ -5,7 +5,7 @@ ghost use lib.ListN.{length};
 ghost use Rattle.day.specs.Windows.{at};
 ghost use Rattle.engine.specs.Places.{row, place, need, layout};
 ghost use Rattle.engine.specs.Lent.{lent, Prepared};
-ghost use Rattle.engine.specs.Filled.{Small, Filled};
+ghost use Rattle.engine.specs.Filled.{Blank, Small, Filled};
 ghost use Rattle.engine.specs.Written.{Written, itself, lowered};
 ghost use Rattle.engine.specs.steps.Level.{with-job, Fillable, RowAdded, RowsAdded};
 use crate::Shape;
@@ -54,7 +54,7 @@ fn add_split(
     lower(sums, table, right, next, shape.points, left);
 }
 
-// Lowers a row of sums, at first all "none", by each place at which `job` may split a span that begins at `from`.
+// Lowers a row of sums that says "none" by each place at which `job` may split a span that begins at `from`.
 fn add_splits(
     shape: Shape,
     begins: &[usize],
@@ -67,9 +67,8 @@ fn add_splits(
     sums: &mut [u16],
 )
     requires { ⌜ Fillable (lent shape (now begins) (now rel) (now dead) (now marks)) (now table) job ⌝ }
-    requires { ⌜ (from ≤ at (now rel) job) × (shape .points ≤ length (now sums)) ⌝ }
-    requires { ⌜ ((e : ℕ) → at (now rel) job < e → e < shape .points → at (now sums) e ≡ shape .none) ⌝ }
-    ensures { λ _. ⌜ (length (now (sums .exit)) ≡ length (now (sums .entry))) × ((e : ℕ) → at (now (rel .entry)) job < e → e < shape .points → at (now (sums .exit)) e ≡ with-job (lent shape (now (begins .entry)) (now (rel .entry)) (now (dead .entry)) (now (marks .entry))) (now (table .entry)) job from e) ⌝ }
+    requires { ⌜ (from ≤ at (now rel) job) × Blank shape (now sums) ⌝ }
+    ensures { λ _. ⌜ Written itself (at (now (rel .entry)) job + 1) (shape .points) (with-job (lent shape (now (begins .entry)) (now (rel .entry)) (now (dead .entry)) (now (marks .entry))) (now (table .entry)) job from) (now (sums .entry)) (now (sums .exit)) ⌝ }
 {
     let deadline = wide(dead[job]);
     let mut split = wide(rel[job]);
@@ -82,7 +81,7 @@ fn add_splits(
 }
 
 // Fills the row of the lowest `job + 1` jobs from a point on that isn't after the release of `job`: to the release the level below has
-// the value, after it the sums.
+// the value, after it the sums. The row of sums says "none" before and after.
 fn sum_row(
     shape: Shape,
     begins: &[usize],
@@ -95,13 +94,12 @@ fn sum_row(
     sums: &mut [u16],
 )
     requires { ⌜ Fillable (lent shape (now begins) (now rel) (now dead) (now marks)) (now table) job ⌝ }
-    requires { ⌜ (from ≤ at (now rel) job) × (shape .points ≤ length (now sums)) ⌝ }
-    ensures { λ _. ⌜ (length (now (sums .exit)) ≡ length (now (sums .entry))) × RowAdded (lent shape (now (begins .entry)) (now (rel .entry)) (now (dead .entry)) (now (marks .entry))) job from (now (table .entry)) (now (table .exit)) ⌝ }
+    requires { ⌜ (from ≤ at (now rel) job) × Blank shape (now sums) ⌝ }
+    ensures { λ _. ⌜ (now (sums .exit) ≡ now (sums .entry)) × RowAdded (lent shape (now (begins .entry)) (now (rel .entry)) (now (dead .entry)) (now (marks .entry))) job from (now (table .entry)) (now (table .exit)) ⌝ }
 {
     let after = wide(rel[job]) + 1;
     let here = rows::row_of(shape, begins, job + 1, from);
     rows::copy_row(&mut *table, shape, begins, job, from, after);
-    rows::put(&mut *sums, shape.none, after, shape.points);
     add_splits(
         shape,
         begins,
@@ -113,7 +111,7 @@ fn sum_row(
         &*table,
         &mut *sums,
     );
-    rows::store(table, here, &*sums, after, shape.points);
+    rows::unload(table, here, sums, after, shape.points, shape.none);
 }
 
 // Fills the rows from the points up to the release of `job`.
@@ -128,8 +126,8 @@ fn sum_rows(
     sums: &mut [u16],
 )
     requires { ⌜ Fillable (lent shape (now begins) (now rel) (now dead) (now marks)) (now table) job ⌝ }
-    requires { ⌜ shape .points ≤ length (now sums) ⌝ }
-    ensures { λ _. ⌜ (length (now (sums .exit)) ≡ length (now (sums .entry))) × RowsAdded (lent shape (now (begins .entry)) (now (rel .entry)) (now (dead .entry)) (now (marks .entry))) job (at (now (rel .entry)) job + 1) (now (table .entry)) (now (table .exit)) ⌝ }
+    requires { ⌜ Blank shape (now sums) ⌝ }
+    ensures { λ _. ⌜ (now (sums .exit) ≡ now (sums .entry)) × RowsAdded (lent shape (now (begins .entry)) (now (rel .entry)) (now (dead .entry)) (now (marks .entry))) job (at (now (rel .entry)) job + 1) (now (table .entry)) (now (table .exit)) ⌝ }
 {
     let after = wide(rel[job]) + 1;
     let mut from = 0;
@@ -161,8 +159,8 @@ fn fill_level(
     sums: &mut [u16],
 )
     requires { ⌜ Fillable (lent shape (now begins) (now rel) (now dead) (now marks)) (now table) job ⌝ }
-    requires { ⌜ shape .points ≤ length (now sums) ⌝ }
-    ensures { λ _. ⌜ (length (now (sums .exit)) ≡ length (now (sums .entry))) × RowsAdded (lent shape (now (begins .entry)) (now (rel .entry)) (now (dead .entry)) (now (marks .entry))) job (shape .points) (now (table .entry)) (now (table .exit)) ⌝ }
+    requires { ⌜ Blank shape (now sums) ⌝ }
+    ensures { λ _. ⌜ (now (sums .exit) ≡ now (sums .entry)) × RowsAdded (lent shape (now (begins .entry)) (now (rel .entry)) (now (dead .entry)) (now (marks .entry))) job (shape .points) (now (table .entry)) (now (table .exit)) ⌝ }
 {
     sum_rows(
         shape,
@@ -178,7 +176,7 @@ fn fill_level(
     rows::copy_level(table, shape, begins, job, after);
 }
 
-// Fills the levels of one job up to `count` jobs over the level of no jobs. `sums` has room for a row; what it holds doesn't matter.
+// Fills the levels of one job up to `count` jobs over the level of no jobs. `sums` is a row that says "none", before and after.
 pub fn fill(
     shape: Shape,
     begins: &[usize],
@@ -190,9 +188,9 @@ pub fn fill(
     sums: &mut [u16],
 )
     requires { ⌜ Prepared (lent shape (now begins) (now rel) (now dead) (now marks)) count ⌝ }
-    requires { ⌜ (need (layout shape (now begins)) count ≤ length (now table)) × (shape .points ≤ length (now sums)) ⌝ }
+    requires { ⌜ (need (layout shape (now begins)) count ≤ length (now table)) × Blank shape (now sums) ⌝ }
     requires { ⌜ Small (lent shape (now begins) (now rel) (now dead) (now marks)) 0 (now table) ⌝ }
-    ensures { λ _. ⌜ Filled (lent shape (now (begins .entry)) (now (rel .entry)) (now (dead .entry)) (now (marks .entry))) count (now (table .entry)) (now (table .exit)) ⌝ }
+    ensures { λ _. ⌜ (now (sums .exit) ≡ now (sums .entry)) × Filled (lent shape (now (begins .entry)) (now (rel .entry)) (now (dead .entry)) (now (marks .entry))) count (now (table .entry)) (now (table .exit)) ⌝ }
 {
     let mut job = 0;
     while job < count {

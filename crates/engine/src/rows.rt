@@ -81,26 +81,22 @@ pub(crate) fn copy_level(
     }
 }
 
-// Stores the places `lo` to `hi` of a finished row.
-pub(crate) fn store(table: &mut [u16], to: usize, finished: &[u16], lo: usize, hi: usize)
+// Moves the places `lo` to `hi` of a finished row into the table, and leaves a number behind in each.
+pub(crate) fn unload(
+    table: &mut [u16],
+    to: usize,
+    finished: &mut [u16],
+    lo: usize,
+    hi: usize,
+    behind: u16,
+)
     requires { ⌜ (lo ≤ hi) × (hi ≤ length (now finished)) × (to + hi ≤ length (now table)) ⌝ }
-    ensures { λ _. ⌜ Written (after to) lo hi (at (now (finished .entry))) (now (table .entry)) (now (table .exit)) ⌝ }
+    ensures { λ _. ⌜ Written (after to) lo hi (at (now (finished .entry))) (now (table .entry)) (now (table .exit)) × Written itself lo hi (always behind) (now (finished .entry)) (now (finished .exit)) ⌝ }
 {
     let mut e = lo;
     while e < hi {
         table[to + e] = finished[e];
-        e += 1;
-    }
-}
-
-// Sets the places `lo` to `hi` to one number.
-pub(crate) fn put(places: &mut [u16], number: u16, lo: usize, hi: usize)
-    requires { ⌜ (lo ≤ hi) × (hi ≤ length (now places)) ⌝ }
-    ensures { λ _. ⌜ Written itself lo hi (always number) (now (places .entry)) (now (places .exit)) ⌝ }
-{
-    let mut e = lo;
-    while e < hi {
-        places[e] = number;
+        finished[e] = behind;
         e += 1;
     }
 }

@@ -66,7 +66,7 @@ fn fill_table(
     ensures { λ _. ⌜ Tabled day (lent shape (now (begins .entry)) (now (rel .entry)) (now (dead .entry)) (now (marks .entry))) count (now (table .entry)) (now (table .exit)) ⌝ }
 {
     price::price_level(day, shape, begins, &mut *table);
-    let mut sums = [0u16; 99];
+    let mut sums = [NONE; 99];
     engine::fill::fill(shape, begins, rel, dead, marks, count, table, &mut sums);
 }
 

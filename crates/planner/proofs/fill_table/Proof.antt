@@ -1,6 +1,9 @@
 -- `planner::fill_table` meets its contract: over the prices the engine fills the levels. Assumes nothing.
+use mathlib.Core.Path.{sym, _∙_}
 use native.Mathlib.Omega.{arith}
+use lib.ListN.{getD-replicate}
 use denote.Ref.{now}
+use Rattle.planner.specs.steps.Jobs.{none}
 use Rattle.planner.proofs.Finished.{room, room-for-prices, priced-small, tabled}
 use borrow.Author.Needs.{needs}
 use Rattle.planner.proofs.fill_table.Statement.{statement}
@@ -26,7 +29,10 @@ fill-requires c κs =
       (
         (
           omega (arith, start .pre .1, priced .long, room given (now (start .args .table)) (start .pre .1)),
-          omega (arith, given .points, given .jobs .slots),
+          record {
+            long = omega (arith, given .points, given .jobs .slots);
+            none = λ e h. getD-replicate 99 e none 0 (omega (arith, given .points, given .jobs .slots)) ∙ sym (given .none);
+          },
         ),
         priced-small given (now (start .args .table)) (start .pre .1) _ priced,
       ),
@@ -38,7 +44,7 @@ same-length c = search needs
 returns : tie.Need-returns
 returns c =
     let start = c .before .before .before .before .before .before .before .before .before .before .before .before .before .before .before in
-    tabled (start .pre .0) (now (start .args .table)) (start .pre .1) _ (c .before .before .before .before .before .before .before .before .price-level .ensures) _ (c .before .before .before .fill .ensures)
+    tabled (start .pre .0) (now (start .args .table)) (start .pre .1) _ (c .before .before .before .before .before .before .before .before .price-level .ensures) _ (c .before .before .before .fill .ensures .1)
 
 pub fill-table-spec : {M : Type 1} → statement M
 fill-table-spec =

@@ -1,6 +1,6 @@
 -- `engine::fill::add_splits` meets its contract: the sums are the least over the splits passed. Assumes nothing.
 use Prim.Native.Nat.{ℕ, _+_, _-_, _≤_, _<_}
-use mathlib.Core.Path.{_≡_, refl, ap, _∙_}
+use mathlib.Core.Path.{_≡_, refl}
 use mathlib.Core.Logic.{⊎-elim}
 use native.Mathlib.Omega.{arith}
 use lib.ListN.{length}
@@ -11,12 +11,13 @@ use Rattle.engine.specs.Places.{row, place}
 use Rattle.engine.specs.steps.Level.{one-job}
 use borrow.Author.Needs.{needs}
 use Rattle.engine.proofs.Places.{place-below, row-below}
+use Rattle.engine.proofs.Written.{KeptBut, kept-all, kept-written, kept-as}
 use Rattle.engine.proofs.Sums.{Sums, sums-none, unmarked-skipped, split-fits, split-lowers, sums-value}
 use Rattle.engine.proofs.fill.add_splits.Statement.{statement}
 use Rattle.engine.proofs.fill.add_splits.Tie as tie
 
 abbrev Inv-loop : tie.InvT-loop
-Inv-loop shape begins rel dead marks job from table sums₀ deadline split₀ sums split = (at rel job ≤ split) × (split ≤ deadline) × (deadline < shape .points) × (length sums ≡ length sums₀) × Sums
+Inv-loop shape begins rel dead marks job from table sums₀ deadline split₀ sums split = (at rel job ≤ split) × (split ≤ deadline) × (deadline < shape .points) × KeptBut (at rel job + 1) (shape .points) sums₀ sums × Sums
     (one-job (lent shape begins rel dead marks) table job) (shape .points) from split sums
 
 abbrev μ-loop : tie.MeasureT-loop
@@ -52,9 +53,10 @@ loop-holds c =
       omega arith,
       omega (arith, p .window (a .job) (omega arith)),
       omega (arith, p .before-end (a .job) (omega arith)),
-      refl,
+      kept-all _ _ _,
       rw (c .wide2 .ensures .0)
-          (sums-none (one-job (given start) (now (a .table)) (a .job)) (a .shape .points) (a .from) (now (a .sums)) (start .pre .1 .1)),
+          (sums-none (one-job (given start) (now (a .table)) (a .job)) (a .shape .points) (a .from) (now (a .sums))
+          (λ e r. start .pre .1 .1 .none e)),
     )
 
 mul-wide-3 : tie.Need-mul-wide-3 Inv-loop μ-loop
@@ -84,7 +86,7 @@ module _ (c : tie.After-wide3 Inv-loop μ-loop) where
   before-end = omega arith
 
   room : start .args .shape .points ≤ length (c .before .before .before .loop .sums)
-  room = omega (arith, start .pre .1 .0)
+  room = omega (arith, c .before .before .before .loop .inv .3 .long, start .pre .1 .1 .long)
 
   left-there : place (layout-of (given start)) (start .args .job) (start .args .from) split < length (now (start .args .table))
   left-there =
@@ -127,7 +129,7 @@ loop-again c =
       omega arith,
       omega arith,
       l .inv .2,
-      ⊎-elim (λ w. ap length (w .5) ∙ w .2 .ensures .long ∙ l .inv .3) (λ w. ap length (w .1) ∙ l .inv .3) (c .if1 .came),
+      ⊎-elim (λ w. rw (w .5) (kept-written _ _ _ _ _ _ _ (omega arith) (l .inv .3) (w .2 .ensures))) (λ w. rw (w .1) (l .inv .3)) (c .if1 .came),
       ⊎-elim
           (λ w.
           rw (w .5)
@@ -141,17 +143,16 @@ loop-again c =
     )
 
 same-length : tie.Need-same-length Inv-loop μ-loop
-same-length c = c .before .loop .inv .3
+same-length c = c .before .loop .inv .3 .long
 
 returns : tie.Need-returns Inv-loop μ-loop
 returns c =
     let start = c .before .before .before .before .before .before .before .before .before .before .before .before in
     let a = start .args in
-    let e : c .before .loop .split ≡ at (now (a .dead)) (a .job) = omega arith in (
-      c .before .loop .inv .3,
-      λ x h l. sums-value (one-job (given start) (now (a .table)) (a .job)) (a .shape .points) (a .from) x
-          (c .before .loop .sums) (start .pre .1 .0 .0) h l (rw e at (c .before .loop .inv .4)),
-    )
+    let e : c .before .loop .split ≡ at (now (a .dead)) (a .job) = omega arith in
+    kept-as _ _ _ _ _ (c .before .loop .inv .3)
+    (λ x h l. sums-value (one-job (given start) (now (a .table)) (a .job)) (a .shape .points) (a .from) x
+    (c .before .loop .sums) (start .pre .1 .0) (omega arith) l (rw e at (c .before .loop .inv .4)))
 
 pub add-splits-spec : {M : Type 1} → statement M
 add-splits-spec =

@@ -1,6 +1,6 @@
 -- `engine::fill::fill` meets its contract: the levels up to `job` are filled. Assumes nothing.
 use Prim.Native.Nat.{_-_, _≤_}
-use mathlib.Core.Path.{_≡_, refl, _∙_}
+use mathlib.Core.Path.{_≡_, refl, ap, _∙_}
 use native.Mathlib.Omega.{arith}
 use lib.ListN.{length}
 use denote.Ref.{now}
@@ -12,7 +12,7 @@ use Rattle.engine.proofs.fill.fill.Statement.{statement}
 use Rattle.engine.proofs.fill.fill.Tie as tie
 
 abbrev Inv-loop : tie.InvT-loop
-Inv-loop shape begins rel dead marks count table₀ sums₀ job₀ table sums job = (job ≤ count) × (length sums ≡ length sums₀) × Filled (lent shape begins rel dead marks) job table₀ table
+Inv-loop shape begins rel dead marks count table₀ sums₀ job₀ table sums job = (job ≤ count) × (sums ≡ sums₀) × Filled (lent shape begins rel dead marks) job table₀ table
 
 abbrev μ-loop : tie.MeasureT-loop
 μ-loop shape begins rel dead marks count table₀ sums₀ job₀ table sums job = count - job
@@ -26,7 +26,7 @@ able : (c : tie.In-loop Inv-loop μ-loop)
 able c = fillable-next (c .before .before .before .before .before .before .before .before .pre .0) (c .before .before .before .before .before .before .before .before .pre .1 .0 .0) (c .before .loop .inv .2) (omega arith)
 
 fill-level-requires : tie.Need-fill-level-requires Inv-loop μ-loop
-fill-level-requires c κs = (able (c .before .before), omega (arith, c .before .before .before .loop .inv .1, c .before .before .before .before .before .before .before .before .before .before .pre .1 .0))
+fill-level-requires c κs = (able (c .before .before), rw (c .before .before .before .loop .inv .1) (c .before .before .before .before .before .before .before .before .before .before .pre .1 .0 .1))
 
 add-job : tie.Need-add-job Inv-loop μ-loop
 add-job c = omega arith
@@ -44,12 +44,12 @@ same-length : tie.Need-same-length Inv-loop μ-loop
 same-length c = c .before .loop .inv .2 .long
 
 same-length-2 : tie.Need-same-length-2 Inv-loop μ-loop
-same-length-2 c = c .before .loop .inv .1
+same-length-2 c = ap length (c .before .loop .inv .1)
 
 returns : tie.Need-returns Inv-loop μ-loop
 returns c =
     let e : c .before .loop .job ≡ c .before .before .before .before .before .before .before .before .args .count = omega arith in
-    rw e at (c .before .loop .inv .2)
+    (c .before .loop .inv .1, rw e at (c .before .loop .inv .2))
 
 pub fill-spec : {M : Type 1} → statement M
 fill-spec =

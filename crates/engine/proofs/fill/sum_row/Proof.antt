@@ -7,7 +7,7 @@ use Rattle.day.specs.Windows.{at}
 use Rattle.engine.specs.Places.{Span, place}
 use Rattle.engine.specs.Lent.{Lent, lent, layout-of}
 use Rattle.engine.specs.steps.Level.{with-job, Fillable}
-use Rattle.engine.proofs.Written.{written-join, written-as}
+use Rattle.engine.proofs.Written.{written-join, written-as, written-undone}
 use Rattle.engine.proofs.OneJob.{with-job-same}
 use Rattle.engine.proofs.Level.{released-before-end, copyable, row-there, row-copied, written-kept, fillable-kept}
 use borrow.Author.Needs.{needs}
@@ -18,7 +18,7 @@ abbrev given : tie.Start → Lent
 given s = lent (s .args .shape) (now (s .args .begins)) (now (s .args .rel)) (now (s .args .dead)) (now (s .args .marks))
 
 from-there : (s : tie.Start) → s .args .from < s .args .shape .points
-from-there s = omega (arith, s .pre .1, released-before-end (s .pre .0))
+from-there s = omega (arith, s .pre .1 .0, released-before-end (s .pre .0))
 
 mul-wide : tie.Need-mul-wide
 mul-wide c = search needs
@@ -45,7 +45,7 @@ row-of-requires c κs =
 copy-row-requires : tie.Need-copy-row-requires
 copy-row-requires c κs =
     let s = c .before .before .before .before .before .before .before .before .before .before in
-    (copyable (s .pre .0), (omega (arith, s .pre .1), omega (arith, released-before-end (s .pre .0)), from-there s))
+    (copyable (s .pre .0), (omega (arith, s .pre .1 .0), omega (arith, released-before-end (s .pre .0)), from-there s))
 
 -- the copy leaves the level below
 module _ (c : tie.After-copy-row) where
@@ -62,25 +62,20 @@ module _ (c : tie.After-copy-row) where
   able : Fillable (given start) (c .copy-row .last .0) (start .args .job)
   able = fillable-kept (start .pre .0) _ (c .copy-row .ensures .long) kept
 
-put-requires : tie.Need-put-requires
-put-requires c κs =
-    let s = start (c .before .before .before) in
-    (omega (arith, released-before-end (s .pre .0)), omega (arith, s .pre .1))
-
 add-splits-requires : tie.Need-add-splits-requires
-add-splits-requires c κs =
-    let put = c .before .before .before .before .put .ensures in
-    let s = start (c .before .before .before .before .before .before .before .before) in
-    (able (c .before .before .before .before .before .before .before .before), ((s .pre .1 .0, omega (arith, put .long, s .pre .1)), λ e h l. put .inside e (omega arith) l))
+add-splits-requires c κs = (able (c .before .before .before .before), start (c .before .before .before .before) .pre .1)
 
-store-requires : tie.Need-store-requires
-store-requires c κs =
-    let copied = c .before .before .before .before .before .before .before .before .before .before .before .before .before in
-    let s = start copied in
-    let here = copied .before .before .row-of in (
+unload-requires : tie.Need-unload-requires
+unload-requires c κs =
+    let copied = c .before .before .before .before .before .before .before .before .before in
+    let s = start copied in (
       omega (arith, released-before-end (s .pre .0), copied .before .before .before .wide .ensures .0),
-      omega (arith, c .before .before .before .before .add-splits .ensures .0, c .before .before .before .before .before .before .before .before .before .put .ensures .long, s .pre .1),
-      omega (arith, row-there (copyable (able copied)) (s .args .from) (from-there s) (s .args .job + 1) _ (omega arith) (here .ensures)),
+      omega (arith, c .before .before .before .before .add-splits .ensures .long, s .pre .1 .1 .long),
+      omega (
+        arith,
+        row-there (copyable (able copied)) (s .args .from) (from-there s) (s .args .job + 1) _ (omega arith)
+            (copied .before .before .row-of .ensures),
+      ),
     )
 
 same-length : tie.Need-same-length
@@ -91,21 +86,24 @@ same-length-2 c = search needs
 
 returns : tie.Need-returns
 returns c =
-    let copied = c .before .before .before .before .before .before .before .before .before .before .before .before .before .before .before .before in
+    let copied = c .before .before .before .before .before .before .before .before .before .before .before .before .before .before in
     let s = start copied in
     let a = s .args in
-    let after = copied .before .before .before .wide .result + 1 in
-    let sums = c .before .before .before .before .before .before .before .add-splits .ensures in (
-      sums .0 ∙ c .before .before .before .before .before .before .before .before .before .before .before .before .put .ensures .long,
+    let release = copied .before .before .before .wide .ensures .0 in
+    let after = at (now (a .rel)) (a .job) + 1 in
+    let sums = c .before .before .before .before .before .before .before .before .before .add-splits .ensures in
+    let unloaded = c .before .before .before .before .unload .ensures in (
+      written-undone after (a .shape .points) (a .shape .none) _ (now (a .sums)) _ _ (s .pre .1 .1 .none) sums (rw release at (unloaded .1)),
       written-join (place (layout-of (given s)) (a .job + 1) (a .from)) (with-job (given s) (now (a .table)) (a .job) (a .from)) (a .from)
-          after (a .shape .points) (now (a .table)) _ _ (λ x y h l q. omega arith) (omega (arith, s .pre .1))
+          after (a .shape .points) (now (a .table)) _ _ (λ x y h l q. omega arith) (omega (arith, s .pre .1 .0))
           (omega (arith, released-before-end (s .pre .0)))
-          (row-copied (s .pre .0) (a .from) (a .from) after _ (λ e l h i. omega (arith, i .1)) (copied .copy-row .ensures))
+          (row-copied (s .pre .0) (a .from) (a .from) after _ (λ e l h i. omega (arith, i .1)) (rw release at (copied .copy-row .ensures)))
           (written-as (place (layout-of (given s)) (a .job + 1) (a .from)) _ (with-job (given s) (now (a .table)) (a .job) (a .from))
           after (a .shape .points) _ _
-          (λ e l h. sums .1 e (omega arith) h
-          ∙ with-job-same (given s) (copied .copy-row .last .0) (a .job) (now (a .table)) (kept copied) (a .from) e (omega (arith, s .pre .1), h))
-          (rw (copied .before .before .row-of .ensures) at (c .before .before .store .ensures))),
+          (λ e l h. sums .inside e l h
+          ∙ with-job-same (given s) (copied .copy-row .last .0) (a .job) (now (a .table)) (kept copied) (a .from) e
+          (omega (arith, s .pre .1 .0), h))
+          (rw (copied .before .before .row-of .ensures, release) at (unloaded .0))),
     )
 
 pub sum-row-spec : {M : Type 1} → statement M
@@ -119,9 +117,8 @@ sum-row-spec =
     add-row-of
     row-of-requires
     copy-row-requires
-    put-requires
     add-splits-requires
-    store-requires
+    unload-requires
     same-length
     same-length-2
     returns)

@@ -1,6 +1,6 @@
 -- `engine::fill::sum_rows` meets its contract: the rows below `from` are there. Assumes nothing.
 use Prim.Native.Nat.{_+_, _-_, _≤_, _<_}
-use mathlib.Core.Path.{_≡_, refl, _∙_}
+use mathlib.Core.Path.{_≡_, refl, ap, _∙_}
 use native.Mathlib.Omega.{arith}
 use lib.ListN.{length}
 use denote.Ref.{now}
@@ -12,7 +12,7 @@ use Rattle.engine.proofs.fill.sum_rows.Statement.{statement}
 use Rattle.engine.proofs.fill.sum_rows.Tie as tie
 
 abbrev Inv-loop : tie.InvT-loop
-Inv-loop shape begins rel dead marks job table₀ sums₀ after from₀ table sums from = (from ≤ after) × (after < shape .points) × (length sums ≡ length sums₀) × RowsAdded
+Inv-loop shape begins rel dead marks job table₀ sums₀ after from₀ table sums from = (from ≤ after) × (after < shape .points) × (sums ≡ sums₀) × RowsAdded
     (lent shape begins rel dead marks) job from table₀ table
 
 abbrev μ-loop : tie.MeasureT-loop
@@ -43,7 +43,7 @@ sum-row-requires : tie.Need-sum-row-requires Inv-loop μ-loop
 sum-row-requires c κs =
     let start = c .before .before .before .before .before .before .before .before .before .before .before .before in
     let l = c .before .before .before .loop in
-    (fillable-added (start .pre .0) (l .from) _ (l .inv .3), (omega arith, omega (arith, l .inv .2, start .pre .1)))
+    (fillable-added (start .pre .0) (l .from) _ (l .inv .3), (omega arith, rw (l .inv .2) (start .pre .1)))
 
 add-from : tie.Need-add-from Inv-loop μ-loop
 add-from c = omega arith
@@ -65,7 +65,7 @@ same-length : tie.Need-same-length Inv-loop μ-loop
 same-length c = c .before .loop .inv .3 .long
 
 same-length-2 : tie.Need-same-length-2 Inv-loop μ-loop
-same-length-2 c = c .before .loop .inv .2
+same-length-2 c = ap length (c .before .loop .inv .2)
 
 returns : tie.Need-returns Inv-loop μ-loop
 returns c =
