@@ -1,6 +1,6 @@
 -- The laws of a row of sums: at each e it holds the least sum of the two sides over the splits before t. Assumes nothing.
 use Prim.Native.Nat.{ℕ, _+_, _≤_, _<_, min}
-use mathlib.Core.Path.{_≡_, sym, ap, _∙_}
+use mathlib.Core.Path.{_≡_, refl, sym, ap, _∙_}
 use mathlib.Core.List.{List}
 use native.Mathlib.Numerals.{add-one}
 use native.Mathlib.Omega.{arith}
@@ -14,72 +14,85 @@ use Rattle.engine.specs.Places.{row, place}
 use Rattle.engine.specs.Lent.{Lent, layout-of}
 use Rattle.engine.specs.Written.{Written, itself, lowered}
 use Rattle.engine.specs.steps.Level.{one-job, Fillable}
+use Rattle.engine.proofs.Written.{written-as}
 use Rattle.engine.proofs.OneJob.{splits-marked, splits-unmarked, price-read}
 
--- at each e after the release of the job, the least sum over its splits of a span from s before t
-abbrev pub Sums : Problem → ℕ → ℕ → ℕ → List ℕ → Type 0
-Sums P points s t sums =
-    (e : ℕ) → P .release 0 < e → e < points → at sums e ≡ least (may-split P 0) (sides P 0 s e) (P .none) (min t e)
+-- the least sum of the two sides of a span from s to e, over the splits of the job before t
+abbrev sum-to : Problem → ℕ → ℕ → ℕ → ℕ
+sum-to P s t e = least (may-split P 0) (sides P 0 s e) (P .none) (min t e)
+
+-- new is old, save that after the release of the job it holds these sums
+abbrev pub Sums : Problem → ℕ → ℕ → ℕ → List ℕ → List ℕ → Type 0
+Sums P points s t = Written itself (P .release 0 + 1) points (sum-to P s t)
 
 module _ (P : Problem) (points s : ℕ) where
   -- before its release the job splits nowhere
-  pub sums-none : (sums : List ℕ) → ((e : ℕ) → P .release 0 < e → e < points → at sums e ≡ P .none)
-      → Sums P points s (P .release 0) sums
-  sums-none sums h e r l =
-      h e r l
-      ∙ sym (least-none-pass (may-split P 0) (sides P 0 s e) (P .none) 0 (min (P .release 0) e) (omega arith)
-      (λ t z u. may-split-false P 0 t (λ m. omega (arith, m .low)))
-      ∙ least-zero (may-split P 0) (sides P 0 s e) (P .none))
+  pub sums-none : (sums : List ℕ) → ((e : ℕ) → e < points → at sums e ≡ P .none) → Sums P points s (P .release 0) sums sums
+  sums-none sums h = record {
+    long = refl;
+    inside = λ e r l.
+        h e l
+        ∙ sym (least-none-pass (may-split P 0) (sides P 0 s e) (P .none) 0 (min (P .release 0) e) (omega arith)
+        (λ t z u. may-split-false P 0 t (λ m. omega (arith, m .low)))
+        ∙ least-zero (may-split P 0) (sides P 0 s e) (P .none));
+    outside = λ j n. refl;
+  }
 
   -- the bound on t doesn't matter past e
-  least-past : (e t u : ℕ) → e ≤ t → e ≤ u
-      → least (may-split P 0) (sides P 0 s e) (P .none) (min t e) ≡ least (may-split P 0) (sides P 0 s e) (P .none) (min u e)
-  least-past e t u h l = ap (least (may-split P 0) (sides P 0 s e) (P .none)) (omega arith)
+  sum-past : (e t u : ℕ) → e ≤ t → e ≤ u → sum-to P s t e ≡ sum-to P s u e
+  sum-past e t u h l = ap (least (may-split P 0) (sides P 0 s e) (P .none)) (omega arith)
 
-  sums-skip : (t : ℕ) (sums : List ℕ) → (MaySplit P 0 t → ⊥) → Sums P points s t sums → Sums P points s (t + 1) sums
-  sums-skip t sums n w e r l =
-      on-le e t (λ h. w e r l ∙ least-past e t (t + 1) h (omega arith))
-      (λ h.
-      let now : min (t + 1) e ≡ t + 1 = omega arith in
-      let before : min t e ≡ t = omega arith in
-      rw now (w e r l ∙ rw before (sym (least-skip (may-split P 0) (sides P 0 s e) (P .none) t (may-split-false P 0 t n)))))
+  -- before e it does
+  sum-here : (e t : ℕ) → t ≤ e → sum-to P s t e ≡ least (may-split P 0) (sides P 0 s e) (P .none) t
+  sum-here e t h = ap (least (may-split P 0) (sides P 0 s e) (P .none)) (omega arith)
 
-  sums-lower : (t row base : ℕ) (table old new : List ℕ) → MaySplit P 0 t → base ≡ value P 0 s t
-      → ((e : ℕ) → t < e → e < points → at table (row + e) ≡ value P 0 (t + 1) e)
-      → Sums P points s t old → Written itself (t + 1) points (lowered old table row base) old new
-      → Sums P points s (t + 1) new
-  sums-lower t row base table old new m b right w v e r l =
-      on-le e t
-      (λ h. v .outside e (λ x y z q. omega arith) ∙ w e r l ∙ least-past e t (t + 1) h (omega arith))
+  sums-skip : (t : ℕ) (old new : List ℕ) → (MaySplit P 0 t → ⊥) → Sums P points s t old new → Sums P points s (t + 1) old new
+  sums-skip t old new n =
+      written-as itself (sum-to P s t) (sum-to P s (t + 1)) (P .release 0 + 1) points old new
+      (λ e r l.
+      on-le e t (λ h. sum-past e t (t + 1) h (omega arith))
       (λ h.
-      let now : min (t + 1) e ≡ t + 1 = omega arith in
-      let before : min t e ≡ t = omega arith in
-      rw now
-      (omega (
-        arith,
-        v .inside e (omega arith) l,
-        rw before at (w e r l),
-        least-pass (may-split P 0) (sides P 0 s e) (P .none) t (may-split-intro P 0 t m),
-        sides-is P 0 s e t,
-        rw add-one at (right e h l),
-      )))
+      sum-here e t (omega arith)
+      ∙ sym (sum-here e (t + 1) (omega arith)
+      ∙ least-skip (may-split P 0) (sides P 0 s e) (P .none) t (may-split-false P 0 t n))))
+
+  sums-lower : (t row base : ℕ) (table old between new : List ℕ) → MaySplit P 0 t → base ≡ value P 0 s t
+      → ((e : ℕ) → t < e → e < points → at table (row + e) ≡ value P 0 (t + 1) e) → Sums P points s t old between
+      → Written itself (t + 1) points (lowered between table row base) between new → Sums P points s (t + 1) old new
+  sums-lower t row base table old between new m b right w v = record {
+    long = v .long ∙ w .long;
+    inside = λ e r l. on-le e t
+        (λ h. v .outside e (λ x y z q. omega arith) ∙ w .inside e r l ∙ sum-past e t (t + 1) h (omega arith))
+        (λ h. omega (
+          arith,
+          v .inside e (omega arith) l,
+          w .inside e r l,
+          sum-here e t (omega arith),
+          sum-here e (t + 1) (omega arith),
+          least-pass (may-split P 0) (sides P 0 s e) (P .none) t (may-split-intro P 0 t m),
+          sides-is P 0 s e t,
+          rw add-one at (right e h l),
+        ));
+    outside = λ j n. v .outside j (λ e h u. n e (omega (arith, m .low)) u) ∙ w .outside j n;
+  }
 
   -- at its deadline the sums are the values with it
-  pub sums-value : (e : ℕ) (sums : List ℕ) → s ≤ P .release 0 → P .release 0 < e → e < points
-      → Sums P points s (P .deadline 0) sums → at sums e ≡ value P 1 s e
-  sums-value e sums h r l w =
-      w e r l
-      ∙ sym (least-none-pass (may-split P 0) (sides P 0 s e) (P .none) (min (P .deadline 0) e) e (omega arith)
+  pub sums-value : (old new : List ℕ) → s ≤ P .release 0 → Sums P points s (P .deadline 0) old new
+      → Written itself (P .release 0 + 1) points (value P 1 s) old new
+  sums-value old new h =
+      written-as itself (sum-to P s (P .deadline 0)) (value P 1 s) (P .release 0 + 1) points old new
+      (λ e r l.
+      sym (least-none-pass (may-split P 0) (sides P 0 s e) (P .none) (min (P .deadline 0) e) e (omega arith)
       (λ t z u. may-split-false P 0 t (λ m. omega (arith, m .high))))
-      ∙ sym (value-in P 0 s e (h, r))
+      ∙ sym (value-in P 0 s e (h, omega arith)))
 
 -- the sums of job k from s, one point of its window further
-module _ {G : Lent} {table : List ℕ} {k : ℕ} (f : Fillable G table k) (s t : ℕ) (sums : List ℕ)
-    (within : t < at (G .dead) k) (w : Sums (one-job G table k) (G .shape .points) s t sums) where
+module _ {G : Lent} {table : List ℕ} {k : ℕ} (f : Fillable G table k) (s t : ℕ) (old sums : List ℕ)
+    (within : t < at (G .dead) k) (w : Sums (one-job G table k) (G .shape .points) s t old sums) where
   -- the job can't stand where its mark doesn't let it
-  pub unmarked-skipped : at (G .marks) t ≤ k → Sums (one-job G table k) (G .shape .points) s (t + 1) sums
+  pub unmarked-skipped : at (G .marks) t ≤ k → Sums (one-job G table k) (G .shape .points) s (t + 1) old sums
   unmarked-skipped m =
-      sums-skip (one-job G table k) (G .shape .points) s t sums (splits-unmarked G table k t m) w
+      sums-skip (one-job G table k) (G .shape .points) s t old sums (splits-unmarked G table k t m) w
 
   module _ (from : s ≤ t) (released : at (G .rel) k ≤ t) where
     before-end : t + 1 < G .shape .points
@@ -98,7 +111,7 @@ module _ {G : Lent} {table : List ℕ} {k : ℕ} (f : Fillable G table k) (s t :
       omega (
         arith,
         f .prepared .small-none,
-        w e (omega arith) l,
+        w .inside e (omega arith) l,
         least-none-bound (may-split (one-job G table k) 0) (sides (one-job G table k) 0 s e) (G .shape .none) (min t e),
       ),
     )
@@ -106,7 +119,7 @@ module _ {G : Lent} {table : List ℕ} {k : ℕ} (f : Fillable G table k) (s t :
     pub split-lowers : (new : List ℕ) → k < at (G .marks) t
         → Written itself (t + 1) (G .shape .points)
         (lowered sums table (row (layout-of G) k (t + 1)) (at table (place (layout-of G) k s t))) sums new
-        → Sums (one-job G table k) (G .shape .points) s (t + 1) new
+        → Sums (one-job G table k) (G .shape .points) s (t + 1) old new
     split-lowers new m v =
-        sums-lower (one-job G table k) (G .shape .points) s t (row (layout-of G) k (t + 1)) (at table (place (layout-of G) k s t)) table sums new
+        sums-lower (one-job G table k) (G .shape .points) s t (row (layout-of G) k (t + 1)) (at table (place (layout-of G) k s t)) table old sums new
         (splits-marked G table k t released within m) (price-read G table k s t) (λ e h l. price-read G table k (t + 1) e) w v

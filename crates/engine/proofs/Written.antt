@@ -1,4 +1,5 @@
--- The laws of `Written`: nothing is written at first, a store writes one place more, and runs join. Assumes nothing.
+-- The laws of `Written`: nothing is written at first, a store writes one place more, runs join, and what is taken back leaves no trace.
+-- Assumes nothing.
 use Prim.Native.Nat.{ℕ, _+_, _≤_, _<_}
 use mathlib.Core.Path.{_≡_, refl, sym, _∙_}
 use mathlib.Core.List.{List}
@@ -37,26 +38,6 @@ module _ (place : ℕ → ℕ) (f : ℕ → ℕ) where
       → Written place lo hi f old new → Written place lo hi g old new
   written-as g lo hi old new same w =
       record { long = w .long; inside = λ e h u. w .inside e h u ∙ same e h u; outside = w .outside }
-
--- new is old, save between lo and hi
-pub record KeptBut (lo hi : ℕ) (old new : List ℕ) : Type 0 where
-  pub long : length new ≡ length old
-  pub outside : (j : ℕ) → (lo ≤ j → j < hi → ⊥) → at new j ≡ at old j
-
-pub kept-all : (lo hi : ℕ) (old : List ℕ) → KeptBut lo hi old old
-kept-all lo hi old = record { long = refl; outside = λ j n. refl }
-
-pub kept-written : (lo mid hi : ℕ) (f : ℕ → ℕ) (old between new : List ℕ) → lo ≤ mid → KeptBut lo hi old between
-    → Written itself mid hi f between new → KeptBut lo hi old new
-kept-written lo mid hi f old between new h k w = record {
-  long = w .long ∙ k .long;
-  outside = λ j n. w .outside j (λ e l u q. n (omega arith) (omega arith)) ∙ k .outside j n;
-}
-
-pub kept-as : (lo hi : ℕ) (f : ℕ → ℕ) (old new : List ℕ) → KeptBut lo hi old new → ((e : ℕ) → lo ≤ e → e < hi → at new e ≡ f e)
-    → Written itself lo hi f old new
-kept-as lo hi f old new k inside =
-    record { long = k .long; inside = inside; outside = λ j n. k .outside j (λ l u. n j l u refl) }
 
 -- what was written and taken back leaves no trace
 pub written-undone : (lo hi v : ℕ) (f : ℕ → ℕ) (old between new : List ℕ) → ((e : ℕ) → e < hi → at old e ≡ v)

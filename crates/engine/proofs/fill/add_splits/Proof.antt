@@ -11,14 +11,13 @@ use Rattle.engine.specs.Places.{row, place}
 use Rattle.engine.specs.steps.Level.{one-job}
 use borrow.Author.Needs.{needs}
 use Rattle.engine.proofs.Places.{place-below, row-below}
-use Rattle.engine.proofs.Written.{KeptBut, kept-all, kept-written, kept-as}
 use Rattle.engine.proofs.Sums.{Sums, sums-none, unmarked-skipped, split-fits, split-lowers, sums-value}
 use Rattle.engine.proofs.fill.add_splits.Statement.{statement}
 use Rattle.engine.proofs.fill.add_splits.Tie as tie
 
 abbrev Inv-loop : tie.InvT-loop
-Inv-loop shape begins rel dead marks job from table sums₀ deadline split₀ sums split = (at rel job ≤ split) × (split ≤ deadline) × (deadline < shape .points) × KeptBut (at rel job + 1) (shape .points) sums₀ sums × Sums
-    (one-job (lent shape begins rel dead marks) table job) (shape .points) from split sums
+Inv-loop shape begins rel dead marks job from table sums₀ deadline split₀ sums split = (at rel job ≤ split) × (split ≤ deadline) × (deadline < shape .points) × Sums
+    (one-job (lent shape begins rel dead marks) table job) (shape .points) from split sums₀ sums
 
 abbrev μ-loop : tie.MeasureT-loop
 μ-loop shape begins rel dead marks job from table sums₀ deadline split₀ sums split = deadline - split
@@ -53,10 +52,9 @@ loop-holds c =
       omega arith,
       omega (arith, p .window (a .job) (omega arith)),
       omega (arith, p .before-end (a .job) (omega arith)),
-      kept-all _ _ _,
       rw (c .wide2 .ensures .0)
           (sums-none (one-job (given start) (now (a .table)) (a .job)) (a .shape .points) (a .from) (now (a .sums))
-          (λ e r. start .pre .1 .1 .none e)),
+          (start .pre .1 .1 .none)),
     )
 
 mul-wide-3 : tie.Need-mul-wide-3 Inv-loop μ-loop
@@ -112,7 +110,7 @@ add-split-requires c κs =
       (begun e, before-end e, f .prepared .rows, room e),
       (
         (left-there e, right-there e),
-        split-fits f (start e .args .from) (split e) (e .before .before .before .loop .sums) (within e) (e .before .before .before .loop .inv .4) (begun e) (e .before .before .before .loop .inv .0),
+        split-fits f (start e .args .from) (split e) (now (start e .args .sums)) (e .before .before .before .loop .sums) (within e) (e .before .before .before .loop .inv .3) (begun e) (e .before .before .before .loop .inv .0),
       ),
     )
 
@@ -129,15 +127,14 @@ loop-again c =
       omega arith,
       omega arith,
       l .inv .2,
-      ⊎-elim (λ w. rw (w .5) (kept-written _ _ _ _ _ _ _ (omega arith) (l .inv .3) (w .2 .ensures))) (λ w. rw (w .1) (l .inv .3)) (c .if1 .came),
       ⊎-elim
           (λ w.
           rw (w .5)
-          (split-lowers (start e .pre .0) (start e .args .from) (split e) (l .sums) (within e) (l .inv .4) (begun e) (l .inv .0) _
+          (split-lowers (start e .pre .0) (start e .args .from) (split e) (now (start e .args .sums)) (l .sums) (within e) (l .inv .3) (begun e) (l .inv .0) _
           (omega (arith, e .wide3 .ensures .0, w .0 .taken)) (w .2 .ensures)))
           (λ w.
           rw (w .1)
-          (unmarked-skipped (start e .pre .0) (start e .args .from) (split e) (l .sums) (within e) (l .inv .4)
+          (unmarked-skipped (start e .pre .0) (start e .args .from) (split e) (now (start e .args .sums)) (l .sums) (within e) (l .inv .3)
           (omega (arith, e .wide3 .ensures .0, w .0 .left))))
           (c .if1 .came),
     )
@@ -150,9 +147,8 @@ returns c =
     let start = c .before .before .before .before .before .before .before .before .before .before .before .before in
     let a = start .args in
     let e : c .before .loop .split ≡ at (now (a .dead)) (a .job) = omega arith in
-    kept-as _ _ _ _ _ (c .before .loop .inv .3)
-    (λ x h l. sums-value (one-job (given start) (now (a .table)) (a .job)) (a .shape .points) (a .from) x
-    (c .before .loop .sums) (start .pre .1 .0) (omega arith) l (rw e at (c .before .loop .inv .4)))
+    sums-value (one-job (given start) (now (a .table)) (a .job)) (a .shape .points) (a .from) _ _ (start .pre .1 .0)
+    (rw e at (c .before .loop .inv .3))
 
 pub add-splits-spec : {M : Type 1} → statement M
 add-splits-spec =
