@@ -13,7 +13,7 @@ use Rattle.rule.proofs.Value.{In, value-zero, value-out}
 use Rattle.engine.specs.Places.{Layout, Span, Fits, row, place, need}
 use Rattle.engine.specs.Lent.{Lent, layout-of, Prepared, Posed}
 use Rattle.engine.specs.Filled.{Level, Priced, Small, Filled}
-use Rattle.engine.specs.Written.{Written, after, along, Apart, Rows}
+use Rattle.engine.specs.Written.{Written, along, Apart, Rows}
 use Rattle.engine.specs.steps.Level.{one-job, with-job, Copyable, Fillable, RowAdded, RowsAdded}
 use Rattle.engine.proofs.Places.{place-below, place-same, row-below, need-more}
 use Rattle.engine.proofs.Written.{written-as}

@@ -3,3 +3,4 @@ pub mod Table
 pub mod Jobs
 pub mod Promise
 pub mod Finished
+pub mod Accepted

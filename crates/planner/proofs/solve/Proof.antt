@@ -9,7 +9,7 @@ use Rattle.day.specs.Windows.{at}
 use Rattle.day.specs.Number.{Numbered}
 use Rattle.day.proofs.Cases.{give}
 use Rattle.planner.specs.Table.{need}
-use Rattle.planner.proofs.Finished.{numbered-new, releases-fit, deadlines-fit, row-below-count, rows-apart, prepared-of, solved}
+use Rattle.planner.proofs.Accepted.{numbered-new, releases-fit, deadlines-fit, row-below-count, rows-apart, prepared-of, solved}
 use borrow.Author.Needs.{needs}
 use Rattle.planner.proofs.solve.Statement.{statement}
 use Rattle.planner.proofs.solve.Tie as tie
