@@ -4,32 +4,17 @@ use Rattle.claim.specs.Choice.{keeps-own, takes-server, neither}
 use Rattle.claim.proofs.cheaper.Statement.{statement}
 use Rattle.claim.proofs.cheaper.Tie as tie
 
-of-requires : tie.Need-of-requires
-of-requires c κs = search needs
-
 returns : tie.Need-returns
 returns c = neither (c .before .before .before .if1 .taken) (c .before .if2 .taken) (c .of .ensures)
-
-done-requires : tie.Need-done-requires
-done-requires c κs = search needs
 
 returns-2 : tie.Need-returns-2
 returns-2 c = takes-server (c .before .if2 .left) (λ e. absurd (c .before .before .before .if1 .taken e)) (c .done .ensures)
 
-done-requires-2 : tie.Need-done-requires-2
-done-requires-2 c κs = search needs
-
 returns-3 : tie.Need-returns-3
 returns-3 c = keeps-own (c .before .before .before .if1 .left) (λ e. absurd (c .before .if3 .taken e)) (c .done2 .ensures)
 
-done-requires-3 : tie.Need-done-requires-3
-done-requires-3 c κs = search needs
-
 returns-4 : tie.Need-returns-4
 returns-4 c = takes-server (c .before .before .before .before .if3 .left) (λ e. c .before .if4 .taken) (c .done3 .ensures)
-
-done-requires-4 : tie.Need-done-requires-4
-done-requires-4 c κs = search needs
 
 returns-5 : tie.Need-returns-5
 returns-5 c = keeps-own (c .before .before .before .before .before .before .if1 .left) (λ e. c .before .if4 .left) (c .done4 .ensures)
@@ -38,13 +23,13 @@ pub cheaper-spec : {M : Type 1} → statement M
 cheaper-spec =
     tie.close
     (tie.spec
-    of-requires
+    (λ c κs. search needs)
     returns
-    done-requires
+    (λ c κs. search needs)
     returns-2
-    done-requires-2
+    (λ c κs. search needs)
     returns-3
-    done-requires-3
+    (λ c κs. search needs)
     returns-4
-    done-requires-4
+    (λ c κs. search needs)
     returns-5)

@@ -10,12 +10,6 @@ use Rattle.claim.proofs.Choice.{chosen-named, named-own, named-server}
 use Rattle.claim.proofs.choose.Statement.{statement}
 use Rattle.claim.proofs.choose.Tie as tie
 
-which-requires : tie.Need-which-requires
-which-requires c κs = search needs
-
-slice-aggregate-result : tie.Need-slice-aggregate-result
-slice-aggregate-result c = search needs
-
 returns : tie.Need-returns
 returns c =
     record {
@@ -61,8 +55,8 @@ pub choose-spec : {M : Type 1} → statement M
 choose-spec =
     tie.close
     (tie.spec
-    which-requires
-    slice-aggregate-result
+    (λ c κs. search needs)
+    (λ c. search needs)
     returns
     slice-aggregate-result-2
     returns-2

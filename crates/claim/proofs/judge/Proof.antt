@@ -8,9 +8,6 @@ use Rattle.claim.proofs.Claim.{good-rows-within, passed-accepted}
 use Rattle.claim.proofs.judge.Statement.{statement}
 use Rattle.claim.proofs.judge.Tie as tie
 
-check-list-requires : tie.Need-check-list-requires
-check-list-requires c κs = search needs
-
 returns : tie.Need-returns
 returns c =
     record {
@@ -33,4 +30,4 @@ returns-2 c =
     }
 
 pub judge-spec : {M : Type 1} → statement M
-judge-spec = tie.close (tie.spec check-list-requires returns place-requires returns-2)
+judge-spec = tie.close (tie.spec (λ c κs. search needs) returns place-requires returns-2)

@@ -7,9 +7,6 @@ use Rattle.claim.proofs.Claim.{passed-fit, fit-below}
 use Rattle.claim.proofs.place.Statement.{statement}
 use Rattle.claim.proofs.place.Tie as tie
 
-check-starts-requires : tie.Need-check-starts-requires
-check-starts-requires c κs = search needs
-
 returns : tie.Need-returns
 returns c =
     record {
@@ -33,4 +30,4 @@ returns-2 c =
     }
 
 pub place-spec : {M : Type 1} → statement M
-place-spec = tie.close (tie.spec check-starts-requires returns rows-by-slot-requires returns-2)
+place-spec = tie.close (tie.spec (λ c κs. search needs) returns rows-by-slot-requires returns-2)

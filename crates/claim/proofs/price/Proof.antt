@@ -6,9 +6,6 @@ use Rattle.claim.proofs.Claim.{passed-accepted}
 use Rattle.claim.proofs.price.Statement.{statement}
 use Rattle.claim.proofs.price.Tie as tie
 
-check-list-requires : tie.Need-check-list-requires
-check-list-requires c κs = search needs
-
 returns : tie.Need-returns
 returns c = then-group _ (then-refused _ (c .before .before .check-list .ensures) (c .if1 .taken))
 
@@ -21,4 +18,4 @@ returns-2 c =
     (c .price-starts .ensures))
 
 pub price-spec : {M : Type 1} → statement M
-price-spec = tie.close (tie.spec check-list-requires returns price-starts-requires returns-2)
+price-spec = tie.close (tie.spec (λ c κs. search needs) returns price-starts-requires returns-2)

@@ -18,9 +18,6 @@ place-requires c κs = good-rows-within (c .before .before .before .pre .slots) 
 returns : tie.Need-returns
 returns c = then-refused _ (c .before .before .before .place .ensures .answer) (c .if1 .taken)
 
-wide-requires : tie.Need-wide-requires
-wide-requires c κs = search needs
-
 -- the day's slots are a part of the rows
 cut : (c : tie.After-wide) → Cut (c .before .before .before .before .before .place .result .rows) (c .wide .result)
 cut c =
@@ -37,9 +34,6 @@ slice-aggregate-cost c = sym (cut (c .before) .long)
 
 cost-requires : tie.Need-cost-requires
 cost-requires c κs = omega (arith, cut (c .before) .long, cut (c .before) .small)
-
-done-requires : tie.Need-done-requires
-done-requires c κs = search needs
 
 returns-2 : tie.Need-returns-2
 returns-2 c =
@@ -60,9 +54,9 @@ price-starts-spec =
     (tie.spec
     place-requires
     returns
-    wide-requires
+    (λ c κs. search needs)
     array-share-prefix-rows
     slice-aggregate-cost
     cost-requires
-    done-requires
+    (λ c κs. search needs)
     returns-2)

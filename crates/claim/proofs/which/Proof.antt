@@ -8,9 +8,6 @@ use Rattle.claim.proofs.Choice.{compared-named}
 use Rattle.claim.proofs.which.Statement.{statement}
 use Rattle.claim.proofs.which.Tie as tie
 
-check-list-requires : tie.Need-check-list-requires
-check-list-requires c κs = search needs
-
 returns : tie.Need-returns
 returns c = then-refused _ (c .before .before .check-list .ensures) (c .if1 .taken)
 
@@ -19,9 +16,6 @@ price-starts-requires c κs = passed-accepted _ (c .before .before .check-list .
 
 price-starts-requires-2 : tie.Need-price-starts-requires-2
 price-starts-requires-2 c κs = passed-accepted _ (c .before .before .before .check-list .ensures) (c .before .if1 .left)
-
-cheaper-requires : tie.Need-cheaper-requires
-cheaper-requires c κs = search needs
 
 returns-2 : tie.Need-returns-2
 returns-2 c =
@@ -35,9 +29,9 @@ pub which-spec : {M : Type 1} → statement M
 which-spec =
     tie.close
     (tie.spec
-    check-list-requires
+    (λ c κs. search needs)
     returns
     price-starts-requires
     price-starts-requires-2
-    cheaper-requires
+    (λ c κs. search needs)
     returns-2)

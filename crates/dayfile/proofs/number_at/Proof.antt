@@ -7,17 +7,8 @@ use Rattle.dayfile.specs.Bytes.{number-at}
 use Rattle.dayfile.proofs.number_at.Statement.{statement}
 use Rattle.dayfile.proofs.number_at.Tie as tie
 
-shared-slice-read-result : tie.Need-shared-slice-read-result
-shared-slice-read-result c = search needs
-
 cast-result : tie.Need-cast-result
 cast-result c = omega (arith, c .shared-slice-known .given (c .before .args .place))
-
-add-result : tie.Need-add-result
-add-result c = search needs
-
-shared-slice-read-result-2 : tie.Need-shared-slice-read-result-2
-shared-slice-read-result-2 c = search needs
 
 cast-result-2 : tie.Need-cast-result-2
 cast-result-2 c = omega (arith, c .shared-slice-known2 .given (c .before .before .args .place + 1))
@@ -42,10 +33,10 @@ pub number-at-spec : {M : Type 1} → statement M
 number-at-spec =
     tie.close
     (tie.spec
-    shared-slice-read-result
+    (λ c. search needs)
     cast-result
-    add-result
-    shared-slice-read-result-2
+    (λ c. search needs)
+    (λ c. search needs)
     cast-result-2
     mul-result
     add-result-2

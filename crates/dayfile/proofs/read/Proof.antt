@@ -22,15 +22,6 @@ column-as : {n m : ℕ} {xs ys : List ℕ} (file : List ℕ) (place other : ℕ)
     → FilledFrom m (column file other) xs ys
 column-as file place other e f p = rw (← e, ← f) p
 
-lesser-requires : tie.Need-lesser-requires
-lesser-requires c κs = search needs
-
-check-file-requires : tie.Need-check-file-requires
-check-file-requires c κs = search needs
-
-refusal-requires : tie.Need-refusal-requires
-refusal-requires c κs = search needs
-
 returns : tie.Need-returns
 returns c =
     record {
@@ -53,35 +44,17 @@ sub-number-at-2 c = omega (arith, accepted (c .before))
 number-at-requires-2 : tie.Need-number-at-requires-2
 number-at-requires-2 c κs = omega (arith, accepted (c .before))
 
-wide-requires : tie.Need-wide-requires
-wide-requires c κs = search needs
-
 sub-first : tie.Need-sub-first
 sub-first c = omega (arith, accepted (c .before .before .before))
 
 day-in-requires : tie.Need-day-in-requires
 day-in-requires c κs = omega (arith, accepted (c .before .before .before))
 
-wide-requires-2 : tie.Need-wide-requires-2
-wide-requires-2 c κs = search needs
-
 read-column-requires : tie.Need-read-column-requires
 read-column-requires c κs = omega (arith, accepted (c .before .before .before .before .before .before))
 
-add-read-column : tie.Need-add-read-column
-add-read-column c = search needs
-
-wide-requires-3 : tie.Need-wide-requires-3
-wide-requires-3 c κs = search needs
-
 read-column-requires-2 : tie.Need-read-column-requires-2
 read-column-requires-2 c κs = omega (arith, accepted (c .before .before .before .before .before .before .before .before .before .before .before))
-
-same-length : tie.Need-same-length
-same-length c = search needs
-
-same-length-2 : tie.Need-same-length-2
-same-length-2 c = search needs
 
 returns-2 : tie.Need-returns-2
 returns-2 c =
@@ -108,22 +81,22 @@ pub read-spec : {M : Type 1} → statement M
 read-spec =
     tie.close
     (tie.spec
-    lesser-requires
-    check-file-requires
-    refusal-requires
+    (λ c κs. search needs)
+    (λ c κs. search needs)
+    (λ c κs. search needs)
     returns
     sub-number-at
     number-at-requires
     sub-number-at-2
     number-at-requires-2
-    wide-requires
+    (λ c κs. search needs)
     sub-first
     day-in-requires
-    wide-requires-2
+    (λ c κs. search needs)
     read-column-requires
-    add-read-column
-    wide-requires-3
+    (λ c. search needs)
+    (λ c κs. search needs)
     read-column-requires-2
-    same-length
-    same-length-2
+    (λ c. search needs)
+    (λ c. search needs)
     returns-2)

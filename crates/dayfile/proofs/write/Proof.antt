@@ -16,9 +16,6 @@ accepted : (c : tie.Else1) →
     Writable (start .notes) (length (start .releases .now)) (length (start .file .now))
 accepted c = writable (c .if1 .left) (c .before .before .check-room .ensures)
 
-check-room-requires : tie.Need-check-room-requires
-check-room-requires c κs = search needs
-
 returns : tie.Need-returns
 returns c = record { answer = c .before .before .check-room .ensures; accepted = λ e. absurd (c .if1 .taken e); refused = λ h. refl }
 
@@ -28,17 +25,11 @@ write-rows-requires c κs = omega (arith, accepted (c .before))
 cast-write-trailer : tie.Need-cast-write-trailer
 cast-write-trailer c = omega (arith, accepted (c .before .before .before .before))
 
-mul-write-trailer : tie.Need-mul-write-trailer
-mul-write-trailer c = search needs
-
 add-write-trailer : tie.Need-add-write-trailer
 add-write-trailer c = omega (arith, accepted (c .before .before .before .before .before))
 
 write-trailer-requires : tie.Need-write-trailer-requires
 write-trailer-requires c κs = omega (arith, accepted (c .before .before .before .before .before))
-
-same-length : tie.Need-same-length
-same-length c = search needs
 
 returns-2 : tie.Need-returns-2
 unfolding rows-and-trailer
@@ -57,12 +48,12 @@ pub write-spec : {M : Type 1} → statement M
 write-spec =
     tie.close
     (tie.spec
-    check-room-requires
+    (λ c κs. search needs)
     returns
     write-rows-requires
     cast-write-trailer
-    mul-write-trailer
+    (λ c. search needs)
     add-write-trailer
     write-trailer-requires
-    same-length
+    (λ c. search needs)
     returns-2)

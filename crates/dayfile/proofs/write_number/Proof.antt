@@ -7,23 +7,8 @@ use Rattle.dayfile.proofs.Stores.{stored-pair}
 use Rattle.dayfile.proofs.write_number.Statement.{statement}
 use Rattle.dayfile.proofs.write_number.Tie as tie
 
-cast-file : tie.Need-cast-file
-cast-file c = search needs
-
-slice-write-file : tie.Need-slice-write-file
-slice-write-file c = search needs
-
-cast-file-2 : tie.Need-cast-file-2
-cast-file-2 c = search needs
-
-add-file : tie.Need-add-file
-add-file c = search needs
-
 slice-write-file-2 : tie.Need-slice-write-file-2
 slice-write-file-2 c = simp length-set (omega arith)
-
-same-length : tie.Need-same-length
-same-length c = search needs
 
 returns : tie.Need-returns
 unfolding bytes-of
@@ -33,10 +18,10 @@ pub write-number-spec : {M : Type 1} → statement M
 write-number-spec =
     tie.close
     (tie.spec
-    cast-file
-    slice-write-file
-    cast-file-2
-    add-file
+    (λ c. search needs)
+    (λ c. search needs)
+    (λ c. search needs)
+    (λ c. search needs)
     slice-write-file-2
-    same-length
+    (λ c. search needs)
     returns)

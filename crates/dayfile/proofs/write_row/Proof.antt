@@ -7,18 +7,6 @@ use Rattle.dayfile.proofs.Stores.{stored-more}
 use Rattle.dayfile.proofs.write_row.Statement.{statement}
 use Rattle.dayfile.proofs.write_row.Tie as tie
 
-write-number-requires : tie.Need-write-number-requires
-write-number-requires c κs = search needs
-
-add-write-number : tie.Need-add-write-number
-add-write-number c = search needs
-
-write-number-requires-2 : tie.Need-write-number-requires-2
-write-number-requires-2 c κs = search needs
-
-same-length : tie.Need-same-length
-same-length c = search needs
-
 returns : tie.Need-returns
 unfolding row
 returns c =
@@ -29,4 +17,4 @@ returns c =
 pub write-row-spec : {M : Type 1} → statement M
 write-row-spec =
     tie.close
-    (tie.spec write-number-requires add-write-number write-number-requires-2 same-length returns)
+    (tie.spec (λ c κs. search needs) (λ c. search needs) (λ c κs. search needs) (λ c. search needs) returns)

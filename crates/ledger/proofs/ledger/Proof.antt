@@ -8,9 +8,6 @@ use Rattle.ledger.proofs.Same.{plan-counted}
 use Rattle.ledger.proofs.ledger.Statement.{statement}
 use Rattle.ledger.proofs.ledger.Tie as tie
 
-judge-requires : tie.Need-judge-requires
-judge-requires c κs = search needs
-
 returns : tie.Need-returns
 returns c =
     record {
@@ -18,9 +15,6 @@ returns c =
       accepted = λ e. absurd (c .if1 .taken e);
       refused = λ e. refl;
     }
-
-wide-requires : tie.Need-wide-requires
-wide-requires c κs = search needs
 
 -- the day's slots are a part of the rows
 cut : (c : tie.After-wide) → Cut (c .before .before .before .before .before .judge .result .rows) (c .wide .result)
@@ -52,9 +46,9 @@ pub ledger-spec : {M : Type 1} → statement M
 ledger-spec =
     tie.close
     (tie.spec
-    judge-requires
+    (λ c κs. search needs)
     returns
-    wide-requires
+    (λ c κs. search needs)
     array-share-prefix-rows
     slice-aggregate-count
     count-requires

@@ -11,12 +11,6 @@ use Rattle.ledger.proofs.Same.{plan-filled}
 use Rattle.ledger.proofs.slot.Statement.{statement}
 use Rattle.ledger.proofs.slot.Tie as tie
 
-judge-requires : tie.Need-judge-requires
-judge-requires c κs = search needs
-
-no-slot-requires : tie.Need-no-slot-requires
-no-slot-requires c κs = search needs
-
 returns : tie.Need-returns
 returns c =
     rw (c .no-slot .ensures)
@@ -26,12 +20,6 @@ returns c =
       fill = λ e. absurd (c .before .if1 .taken e);
       refused = λ e. refl;
     }
-
-of-requires : tie.Need-of-requires
-of-requires c κs = search needs
-
-no-slot-requires-2 : tie.Need-no-slot-requires-2
-no-slot-requires-2 c κs = search needs
 
 returns-2 : tie.Need-returns-2
 returns-2 c =
@@ -45,9 +33,6 @@ returns-2 c =
       refused = λ e. refl;
     }
 
-wide-requires : tie.Need-wide-requires
-wide-requires c κs = search needs
-
 -- the day's slots are a part of the rows
 cut : (c : tie.After-wide) → Cut (c .before .before .before .before .before .before .before .judge .result .rows) (c .wide .result)
 cut c =
@@ -59,9 +44,6 @@ array-share-prefix-rows c = cut c .room
 
 slice-aggregate-fill-at : tie.Need-slice-aggregate-fill-at
 slice-aggregate-fill-at c = sym (cut (c .before) .long)
-
-wide-requires-2 : tie.Need-wide-requires-2
-wide-requires-2 c κs = search needs
 
 fill-at-requires : tie.Need-fill-at-requires
 fill-at-requires c κs =
@@ -89,15 +71,15 @@ pub slot-spec : {M : Type 1} → statement M
 slot-spec =
     tie.close
     (tie.spec
-    judge-requires
-    no-slot-requires
+    (λ c κs. search needs)
+    (λ c κs. search needs)
     returns
-    of-requires
-    no-slot-requires-2
+    (λ c κs. search needs)
+    (λ c κs. search needs)
     returns-2
-    wide-requires
+    (λ c κs. search needs)
     array-share-prefix-rows
     slice-aggregate-fill-at
-    wide-requires-2
+    (λ c κs. search needs)
     fill-at-requires
     returns-3)

@@ -22,17 +22,8 @@ searched c =
     let start = c .before .before .before .before .before .before in
     rw (toZ-ofZ w16 (start .args .by) (start .fits .by)) at (c .first-leaving .ensures)
 
-check-times-requires : tie.Need-check-times-requires
-check-times-requires c κs = search needs
-
 returns : tie.Need-returns
 returns c = then-group _ (then-refused _ (c .before .before .check-times .ensures) (c .if1 .taken))
-
-first-leaving-requires : tie.Need-first-leaving-requires
-first-leaving-requires c κs = search needs
-
-of-requires : tie.Need-of-requires
-of-requires c κs = search needs
 
 returns-2 : tie.Need-returns-2
 returns-2 c =
@@ -41,9 +32,6 @@ returns-2 c =
     (then-clear (passed-clear times-is-check _ (times .before .before .check-times .ensures) (times .if1 .left))
     (end-clear _ (searched (c .before .before)) (omega arith)))
     (c .of .ensures)
-
-add-number : tie.Need-add-number
-add-number c = search needs
 
 cast-number : tie.Need-cast-number
 cast-number c =
@@ -64,11 +52,11 @@ pub check-move-spec : {M : Type 1} → statement M
 check-move-spec =
     tie.close
     (tie.spec
-    check-times-requires
+    (λ c κs. search needs)
     returns
-    first-leaving-requires
-    of-requires
+    (λ c κs. search needs)
+    (λ c κs. search needs)
     returns-2
-    add-number
+    (λ c. search needs)
     cast-number
     returns-3)

@@ -34,9 +34,6 @@ decided : (c : tie.After-leaves-day Inv-loop μ-loop) →
     (c .leaves-day .result)
 decided c = rw (c .before .at-or-zero .ensures) at (c .leaves-day .ensures)
 
-loop-holds : tie.Need-loop-holds Inv-loop μ-loop
-loop-holds c = search needs
-
 mul-leaves-day : tie.Need-mul-leaves-day Inv-loop μ-loop
 mul-leaves-day c = omega arith
 
@@ -81,7 +78,7 @@ first-leaving-spec =
     (tie.spec
     Inv-loop
     μ-loop
-    loop-holds
+    (λ c. search needs)
     mul-leaves-day
     shared-slice-read-leaves-day
     at-or-zero-requires

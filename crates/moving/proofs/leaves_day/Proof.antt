@@ -14,17 +14,8 @@ use Rattle.moving.proofs.leaves_day.Tie as tie
 release-reads : (c : tie.After-moved) → toZ w32 (ofZ w32 (c .moved .result)) ≡ pos (c .before .args .release) +ℤ c .before .args .by
 release-reads c = moved-reads (c .before .args .release) (c .before .args .by) (omega arith) (c .before .fits .by) (c .moved .ensures)
 
-moved-requires : tie.Need-moved-requires
-moved-requires c κs = search needs
-
 returns : tie.Need-returns
 returns c = record { holds = λ e. inl (below _ _ (rw (release-reads (c .before)) at (c .if1 .taken))); fails = λ e. absurd (not-both refl e) }
-
-signed-requires : tie.Need-signed-requires
-signed-requires c κs = search needs
-
-moved-requires-2 : tie.Need-moved-requires-2
-moved-requires-2 c κs = search needs
 
 returns-2 : tie.Need-returns-2
 returns-2 c =
@@ -44,4 +35,4 @@ returns-2 c =
 
 pub leaves-day-spec : {M : Type 1} → statement M
 leaves-day-spec =
-    tie.close (tie.spec moved-requires returns signed-requires moved-requires-2 returns-2)
+    tie.close (tie.spec (λ c κs. search needs) returns (λ c κs. search needs) (λ c κs. search needs) returns-2)

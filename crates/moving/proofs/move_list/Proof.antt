@@ -30,15 +30,6 @@ accepted : (c : tie.Else1) →
     Acceptable (args .slots) (args .by) (windows (args .releases .now) (args .deadlines .now))
 accepted c = acceptable _ (judged (c .before .before)) (c .if1 .left)
 
-check-move-requires : tie.Need-check-move-requires
-check-move-requires c κs = search needs
-
-same-length : tie.Need-same-length
-same-length c = search needs
-
-same-length-2 : tie.Need-same-length-2
-same-length-2 c = search needs
-
 returns : tie.Need-returns
 returns c =
     record {
@@ -63,12 +54,6 @@ move-first-requires-2 c κs =
       rw (same-shift start) (deadlines-movable (start .args .releases .now) (start .args .deadlines .now) (accepted known)),
     )
 
-same-length-3 : tie.Need-same-length-3
-same-length-3 c = search needs
-
-same-length-4 : tie.Need-same-length-4
-same-length-4 c = search needs
-
 returns-2 : tie.Need-returns-2
 returns-2 c =
     let second = c .before .before in
@@ -86,12 +71,12 @@ pub move-list-spec : {M : Type 1} → statement M
 move-list-spec =
     tie.close
     (tie.spec
-    check-move-requires
-    same-length
-    same-length-2
+    (λ c κs. search needs)
+    (λ c. search needs)
+    (λ c. search needs)
     returns
     move-first-requires
     move-first-requires-2
-    same-length-3
-    same-length-4
+    (λ c. search needs)
+    (λ c. search needs)
     returns-2)

@@ -19,9 +19,6 @@ sum-is c =
     let start = c .before in
     rw (c .signed .ensures, number-reads (start .args .number) (omega arith), shift-reads (start .args .by) (start .fits .by))
 
-signed-requires : tie.Need-signed-requires
-signed-requires c κs = search needs
-
 cast-result : tie.Need-cast-result
 cast-result c =
     let start = c .before in
@@ -38,4 +35,4 @@ returns c =
     rw (sum-is c) (sum-reads (start .args .number) (start .args .by) (omega arith) (start .fits .by))
 
 pub moved-spec : {M : Type 1} → statement M
-moved-spec = tie.close (tie.spec signed-requires cast-result add-result returns)
+moved-spec = tie.close (tie.spec (λ c κs. search needs) cast-result add-result returns)

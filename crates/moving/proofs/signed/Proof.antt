@@ -6,11 +6,8 @@ use borrow.Author.Needs.{needs}
 use Rattle.moving.proofs.signed.Statement.{statement}
 use Rattle.moving.proofs.signed.Tie as tie
 
-cast-result : tie.Need-cast-result
-cast-result c = search needs
-
 returns : tie.Need-returns
 returns c = toZ-pos w32 (c .args .number) (omega arith)
 
 pub signed-spec : {M : Type 1} → statement M
-signed-spec = tie.close (tie.spec cast-result returns)
+signed-spec = tie.close (tie.spec (λ c. search needs) returns)

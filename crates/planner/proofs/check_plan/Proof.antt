@@ -11,9 +11,6 @@ use borrow.Author.Needs.{needs}
 use Rattle.planner.proofs.check_plan.Statement.{statement}
 use Rattle.planner.proofs.check_plan.Tie as tie
 
-check-list-requires : tie.Need-check-list-requires
-check-list-requires c κs = search needs
-
 returns : tie.Need-returns
 returns c = then-group _ (then-refused _ (c .before .before .check-list .ensures) (c .if1 .taken))
 
@@ -28,22 +25,13 @@ clear c = passed-clear list-is-check _ (c .before .before .check-list .ensures) 
 need-of-requires : tie.Need-need-of-requires
 need-of-requires c κs = omega (arith, clear-accepted (clear c) .rows .count)
 
-of-requires : tie.Need-of-requires
-of-requires c κs = search needs
-
 returns-2 : tie.Need-returns-2
 returns-2 c = stops (goes-on (clear (c .before .before .before)) (stops (record { fault = omega arith; says = c .of .ensures })))
-
-of-requires-2 : tie.Need-of-requires-2
-of-requires-2 c κs = search needs
 
 returns-3 : tie.Need-returns-3
 returns-3 c =
     stops (goes-on (clear (c .before .before .before .before)) (goes-on (λ b r. omega (arith, r .fault))
     (record { fault = omega arith; says = c .of2 .ensures })))
-
-of-requires-3 : tie.Need-of-requires-3
-of-requires-3 c κs = search needs
 
 returns-4 : tie.Need-returns-4
 returns-4 c =
@@ -54,12 +42,12 @@ pub check-plan-spec : {M : Type 1} → statement M
 check-plan-spec =
     tie.close
     (tie.spec
-    check-list-requires
+    (λ c κs. search needs)
     returns
     need-of-requires
-    of-requires
+    (λ c κs. search needs)
     returns-2
-    of-requires-2
+    (λ c κs. search needs)
     returns-3
-    of-requires-3
+    (λ c κs. search needs)
     returns-4)

@@ -17,9 +17,6 @@ price-level-requires c κs =
       (given .jobs .slots, given .points, given .lendable .rows, room-for-prices given (now (start .args .table)) (start .pre .1)),
     )
 
-slice-aggregate-fill : tie.Need-slice-aggregate-fill
-slice-aggregate-fill c = search needs
-
 fill-requires : tie.Need-fill-requires
 fill-requires c κs =
     let start = c .before .before .before .before .before .before .before .before .before .before .before in
@@ -38,9 +35,6 @@ fill-requires c κs =
       ),
     )
 
-same-length : tie.Need-same-length
-same-length c = search needs
-
 returns : tie.Need-returns
 returns c =
     let start = c .before .before .before .before .before .before .before .before .before .before .before .before .before .before .before in
@@ -49,4 +43,4 @@ returns c =
 pub fill-table-spec : {M : Type 1} → statement M
 fill-table-spec =
     tie.close
-    (tie.spec price-level-requires slice-aggregate-fill fill-requires same-length returns)
+    (tie.spec price-level-requires (λ c. search needs) fill-requires (λ c. search needs) returns)

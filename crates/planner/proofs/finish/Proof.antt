@@ -18,18 +18,6 @@ use borrow.Author.Needs.{needs}
 use Rattle.planner.proofs.finish.Statement.{statement}
 use Rattle.planner.proofs.finish.Tie as tie
 
-wide-requires : tie.Need-wide-requires
-wide-requires c κs = search needs
-
-add-end : tie.Need-add-end
-add-end c = search needs
-
-need-of-requires : tie.Need-need-of-requires
-need-of-requires c κs = search needs
-
-fill-table-requires : tie.Need-fill-table-requires
-fill-table-requires c κs = search needs
-
 -- once the table is filled
 module _ (c : tie.After-fill-table) where
   abbrev start : tie.Start
@@ -72,15 +60,6 @@ module _ (c : tie.After-value-at) where
   cleared t =
       table-cleared (start f .pre .0) (now (start f .args .table)) (start f .pre .1 .0) _ (filled f) _ t (c .before .before .before .before .before .before .need-of .ensures)
 
-zero-first-requires : tie.Need-zero-first-requires
-zero-first-requires c κs = search needs
-
-of-requires : tie.Need-of-requires
-of-requires c κs = search needs
-
-same-length : tie.Need-same-length
-same-length c = search needs
-
 returns : tie.Need-returns
 returns c =
     let v = c .before .before .before .before .before .before in
@@ -89,9 +68,6 @@ returns c =
       not-found = λ h. (c .of .ensures, refl);
       cleared = cleared v _ (c .before .before .before .zero-first .ensures);
     }
-
-slice-aggregate-read-back : tie.Need-slice-aggregate-read-back
-slice-aggregate-read-back c = search needs
 
 read-back-requires : tie.Need-read-back-requires
 read-back-requires c κs =
@@ -103,25 +79,13 @@ read-back-requires c κs =
       ),
     )
 
-slice-aggregate-write-out : tie.Need-slice-aggregate-write-out
-slice-aggregate-write-out c = search needs
-
 write-out-requires : tie.Need-write-out-requires
 write-out-requires c κs =
     let s = start (c .before .before .before .before .before .before .before .before .before .before .before) in
     (omega (arith, s .pre .0 .jobs .few, c .before .before .before .read-back .ensures .0), (s .pre .1 .1 .0, s .pre .1 .1 .1))
 
-zero-first-requires-2 : tie.Need-zero-first-requires-2
-zero-first-requires-2 c κs = search needs
-
 without-ends-requires : tie.Need-without-ends-requires
 without-ends-requires c κs = start (c .before .before .before .before .before .before .before .before .before .before .before .before .before .before .before .before .before .before) .pre .0 .jobs .wake
-
-same-length-2 : tie.Need-same-length-2
-same-length-2 c = search needs
-
-same-length-3 : tie.Need-same-length-3
-same-length-3 c = search needs
 
 returns-2 : tie.Need-returns-2
 returns-2 c =
@@ -144,21 +108,21 @@ pub finish-spec : {M : Type 1} → statement M
 finish-spec =
     tie.close
     (tie.spec
-    wide-requires
-    add-end
-    need-of-requires
-    fill-table-requires
+    (λ c κs. search needs)
+    (λ c. search needs)
+    (λ c κs. search needs)
+    (λ c κs. search needs)
     value-at-requires
-    zero-first-requires
-    of-requires
-    same-length
+    (λ c κs. search needs)
+    (λ c κs. search needs)
+    (λ c. search needs)
     returns
-    slice-aggregate-read-back
+    (λ c. search needs)
     read-back-requires
-    slice-aggregate-write-out
+    (λ c. search needs)
     write-out-requires
-    zero-first-requires-2
+    (λ c κs. search needs)
     without-ends-requires
-    same-length-2
-    same-length-3
+    (λ c. search needs)
+    (λ c. search needs)
     returns-2)

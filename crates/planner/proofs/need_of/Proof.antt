@@ -7,15 +7,6 @@ use Rattle.planner.proofs.Table.{times-width}
 use Rattle.planner.proofs.need_of.Statement.{statement}
 use Rattle.planner.proofs.need_of.Tie as tie
 
-wide-requires : tie.Need-wide-requires
-wide-requires c κs = search needs
-
-add-width : tie.Need-add-width
-add-width c = search needs
-
-add-result : tie.Need-add-result
-add-result c = search needs
-
 mul-result : tie.Need-mul-result
 mul-result c = omega (arith, times-width (c .wide .result) (c .before .args .count + 1) 65536 (omega arith) (omega arith))
 
@@ -34,4 +25,4 @@ returns c = rw (c .wide .ensures .0)
 
 pub need-of-spec : {M : Type 1} → statement M
 need-of-spec =
-    tie.close (tie.spec wide-requires add-width add-result mul-result mul-result-2 returns)
+    tie.close (tie.spec (λ c κs. search needs) (λ c. search needs) (λ c. search needs) mul-result mul-result-2 returns)

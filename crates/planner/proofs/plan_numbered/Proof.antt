@@ -12,9 +12,6 @@ use borrow.Author.Needs.{needs}
 use Rattle.planner.proofs.plan_numbered.Statement.{statement}
 use Rattle.planner.proofs.plan_numbered.Tie as tie
 
-slice-aggregate-mark-releases : tie.Need-slice-aggregate-mark-releases
-slice-aggregate-mark-releases c = search needs
-
 mark-releases-requires : tie.Need-mark-releases-requires
 mark-releases-requires c κs =
     let s = c .before .before .before .before .before .before in
@@ -25,27 +22,6 @@ mark-releases-requires c κs =
         λ t h u. omega (arith, p .few, getD-replicate {A = ℕ} 99 t 40 0 (omega arith)),
       ),
     )
-
-wide-requires : tie.Need-wide-requires
-wide-requires c κs = search needs
-
-add-points : tie.Need-add-points
-add-points c = search needs
-
-slice-aggregate-begin-rows : tie.Need-slice-aggregate-begin-rows
-slice-aggregate-begin-rows c = search needs
-
-begin-rows-requires : tie.Need-begin-rows-requires
-begin-rows-requires c κs = search needs
-
-shape-of-requires : tie.Need-shape-of-requires
-shape-of-requires c κs = search needs
-
-slice-aggregate-finish : tie.Need-slice-aggregate-finish
-slice-aggregate-finish c = search needs
-
-slice-aggregate-finish-2 : tie.Need-slice-aggregate-finish-2
-slice-aggregate-finish-2 c = search needs
 
 -- once the table is laid out
 module _ (c : tie.After-shape-of) where
@@ -82,12 +58,6 @@ finish-requires c κs =
     let s = start (c .before .before .before .before) in
     (given (c .before .before .before .before), s .pre .1)
 
-same-length : tie.Need-same-length
-same-length c = search needs
-
-same-length-2 : tie.Need-same-length-2
-same-length-2 c = search needs
-
 returns : tie.Need-returns
 returns c = λ P o. c .before .before .before .before .finish .ensures P (asks (c .before .before .before .before .before .before .before .before .before) P o)
 
@@ -95,16 +65,16 @@ pub plan-numbered-spec : {M : Type 1} → statement M
 plan-numbered-spec =
     tie.close
     (tie.spec
-    slice-aggregate-mark-releases
+    (λ c. search needs)
     mark-releases-requires
-    wide-requires
-    add-points
-    slice-aggregate-begin-rows
-    begin-rows-requires
-    shape-of-requires
-    slice-aggregate-finish
-    slice-aggregate-finish-2
+    (λ c κs. search needs)
+    (λ c. search needs)
+    (λ c. search needs)
+    (λ c κs. search needs)
+    (λ c κs. search needs)
+    (λ c. search needs)
+    (λ c. search needs)
     finish-requires
-    same-length
-    same-length-2
+    (λ c. search needs)
+    (λ c. search needs)
     returns)

@@ -14,12 +14,6 @@ use borrow.Author.Needs.{needs}
 use Rattle.planner.proofs.solve.Statement.{statement}
 use Rattle.planner.proofs.solve.Tie as tie
 
-number-rows-requires : tie.Need-number-rows-requires
-number-rows-requires c κs = search needs
-
-slice-aggregate-by-number : tie.Need-slice-aggregate-by-number
-slice-aggregate-by-number c = search needs
-
 -- once the rows are numbered
 module _ (c : tie.After-number-rows) where
   abbrev start : tie.Start
@@ -48,9 +42,6 @@ by-number-requires c κs =
           (λ f. (f .0, omega arith)),
     )
 
-slice-aggregate-by-number-2 : tie.Need-slice-aggregate-by-number-2
-slice-aggregate-by-number-2 c = search needs
-
 by-number-requires-2 : tie.Need-by-number-requires-2
 by-number-requires-2 c κs =
     let n = c .before .before .before .before .before .before .before .before in (
@@ -58,12 +49,6 @@ by-number-requires-2 c κs =
       λ k h. give (deadlines-fit (start n .args .day) (releases n) (deadlines n) (order n) (start n .pre .0) _ (all n) (numbered n) k h)
           (λ f. (f .0, omega arith)),
     )
-
-slice-aggregate-plan-numbered : tie.Need-slice-aggregate-plan-numbered
-slice-aggregate-plan-numbered c = search needs
-
-slice-aggregate-plan-numbered-2 : tie.Need-slice-aggregate-plan-numbered-2
-slice-aggregate-plan-numbered-2 c = search needs
 
 plan-numbered-requires : tie.Need-plan-numbered-requires
 plan-numbered-requires c κs =
@@ -86,15 +71,6 @@ plan-numbered-requires c κs =
       ),
     )
 
-same-length : tie.Need-same-length
-same-length c = search needs
-
-same-length-2 : tie.Need-same-length-2
-same-length-2 c = search needs
-
-same-length-3 : tie.Need-same-length-3
-same-length-3 c = search needs
-
 returns : tie.Need-returns
 returns c =
     let n = c .before .before .before .before .before .before .before .before .before .before .before .before .before .before .before .before .before .before .before .before in
@@ -106,15 +82,15 @@ pub solve-spec : {M : Type 1} → statement M
 solve-spec =
     tie.close
     (tie.spec
-    number-rows-requires
-    slice-aggregate-by-number
+    (λ c κs. search needs)
+    (λ c. search needs)
     by-number-requires
-    slice-aggregate-by-number-2
+    (λ c. search needs)
     by-number-requires-2
-    slice-aggregate-plan-numbered
-    slice-aggregate-plan-numbered-2
+    (λ c. search needs)
+    (λ c. search needs)
     plan-numbered-requires
-    same-length
-    same-length-2
-    same-length-3
+    (λ c. search needs)
+    (λ c. search needs)
+    (λ c. search needs)
     returns)

@@ -9,9 +9,6 @@ use Rattle.planner.proofs.without_ends.Tie as tie
 returns : tie.Need-returns
 returns c = rw (c .if1 .taken) (sym (without-ends-none (c .before .args .day) (c .before .args .value)))
 
-add-ends : tie.Need-add-ends
-add-ends c = search needs
-
 returns-2 : tie.Need-returns-2
 returns-2 c = omega (
   arith,
@@ -27,4 +24,4 @@ returns-3 c = omega (
 )
 
 pub without-ends-spec : {M : Type 1} → statement M
-without-ends-spec = tie.close (tie.spec returns add-ends returns-2 returns-3)
+without-ends-spec = tie.close (tie.spec returns (λ c. search needs) returns-2 returns-3)

@@ -8,20 +8,11 @@ use Rattle.chaskuri.proofs.ByValue.{moved-columns}
 use Rattle.chaskuri.proofs.by_value.move_list.Statement.{statement}
 use Rattle.chaskuri.proofs.by_value.move_list.Tie as tie
 
-array-borrow-prefix-releases : tie.Need-array-borrow-prefix-releases
-array-borrow-prefix-releases c = search needs
-
 slice-aggregate-move-list : tie.Need-slice-aggregate-move-list
 slice-aggregate-move-list c = sym (length-take-le _ _ (c .before .before .before .pre .releases))
 
-array-borrow-prefix-deadlines : tie.Need-array-borrow-prefix-deadlines
-array-borrow-prefix-deadlines c = search needs
-
 slice-aggregate-move-list-2 : tie.Need-slice-aggregate-move-list-2
 slice-aggregate-move-list-2 c = sym (length-take-le _ _ (c .before .before .before .before .pre .deadlines))
-
-move-list-requires : tie.Need-move-list-requires
-move-list-requires c κs = search needs
 
 returns : tie.Need-returns
 returns c =
@@ -46,4 +37,4 @@ returns-2 c =
     }
 
 pub move-list-spec : {M : Type 1} → statement M
-move-list-spec = tie.close (tie.spec array-borrow-prefix-releases slice-aggregate-move-list array-borrow-prefix-deadlines slice-aggregate-move-list-2 move-list-requires returns returns-2)
+move-list-spec = tie.close (tie.spec (λ c. search needs) slice-aggregate-move-list (λ c. search needs) slice-aggregate-move-list-2 (λ c κs. search needs) returns returns-2)

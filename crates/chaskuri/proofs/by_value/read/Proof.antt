@@ -8,9 +8,6 @@ use Rattle.chaskuri.proofs.ByValue.{read-columns}
 use Rattle.chaskuri.proofs.by_value.read.Statement.{statement}
 use Rattle.chaskuri.proofs.by_value.read.Tie as tie
 
-rows-put-requires : tie.Need-rows-put-requires
-rows-put-requires c κs = search needs
-
 array-borrow-prefix-releases : tie.Need-array-borrow-prefix-releases
 array-borrow-prefix-releases c = put-few (c .before .before .args .room) 41 (c .rows-put .result) (c .rows-put .ensures)
 
@@ -27,12 +24,6 @@ slice-aggregate-read-2 c =
     let put : _ = c .before .before .rows-put in
     sym (length-take-le (put .result) zeros (put-few (c .before .before .before .before .args .room) 41 (put .result) (put .ensures)))
 
-read-requires : tie.Need-read-requires
-read-requires c κs = search needs
-
-wide-requires : tie.Need-wide-requires
-wide-requires c κs = search needs
-
 returns : tie.Need-returns
 returns c =
     let put : _ = c .before .before .before .before .before .before in
@@ -43,4 +34,4 @@ returns c =
     }
 
 pub read-spec : {M : Type 1} → statement M
-read-spec = tie.close (tie.spec rows-put-requires array-borrow-prefix-releases slice-aggregate-read array-borrow-prefix-deadlines slice-aggregate-read-2 read-requires wide-requires returns)
+read-spec = tie.close (tie.spec (λ c κs. search needs) array-borrow-prefix-releases slice-aggregate-read array-borrow-prefix-deadlines slice-aggregate-read-2 (λ c κs. search needs) (λ c κs. search needs) returns)

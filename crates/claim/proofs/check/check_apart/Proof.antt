@@ -24,48 +24,6 @@ Inv-rows starts count found₀ row₀ found row =
 abbrev μ-rows : tie.MeasureT-rows
 μ-rows starts count found₀ row₀ found row = count - row
 
-of-requires : tie.Need-of-requires Inv-loop μ-loop Inv-rows μ-rows
-of-requires c κs = search needs
-
-rows-holds : tie.Need-rows-holds Inv-loop μ-loop Inv-rows μ-rows
-rows-holds c = search needs
-
-add-partner : tie.Need-add-partner Inv-loop μ-loop Inv-rows μ-rows
-add-partner c = search needs
-
-loop-holds : tie.Need-loop-holds Inv-loop μ-loop Inv-rows μ-rows
-loop-holds c = search needs
-
-mul-if1 : tie.Need-mul-if1 Inv-loop μ-loop Inv-rows μ-rows
-mul-if1 c = search needs
-
-shared-slice-read-if1 : tie.Need-shared-slice-read-if1 Inv-loop μ-loop Inv-rows μ-rows
-shared-slice-read-if1 c = search needs
-
-mul-if1-2 : tie.Need-mul-if1-2 Inv-loop μ-loop Inv-rows μ-rows
-mul-if1-2 c = search needs
-
-shared-slice-read-if1-2 : tie.Need-shared-slice-read-if1-2 Inv-loop μ-loop Inv-rows μ-rows
-shared-slice-read-if1-2 c = search needs
-
-add-t14 : tie.Need-add-t14 Inv-loop μ-loop Inv-rows μ-rows
-add-t14 c = search needs
-
-cast-t15 : tie.Need-cast-t15 Inv-loop μ-loop Inv-rows μ-rows
-cast-t15 c = search needs
-
-add-t16 : tie.Need-add-t16 Inv-loop μ-loop Inv-rows μ-rows
-add-t16 c = search needs
-
-cast-t17 : tie.Need-cast-t17 Inv-loop μ-loop Inv-rows μ-rows
-cast-t17 c = search needs
-
-add-partner-2 : tie.Need-add-partner-2 Inv-loop μ-loop Inv-rows μ-rows
-add-partner-2 c = search needs
-
-loop-less : tie.Need-loop-less Inv-loop μ-loop Inv-rows μ-rows
-loop-less c = search needs
-
 loop-again : tie.Need-loop-again Inv-loop μ-loop Inv-rows μ-rows
 loop-again c =
     let looked = c .before .before .before .before in
@@ -73,12 +31,6 @@ loop-again c =
       search needs,
       (search needs, (search needs, alone-below-next (Together (start .args .starts .now)) _ _ (looked .loop .inv .1 .1 .1) (c .if1 .left))),
     )
-
-add-row : tie.Need-add-row Inv-loop μ-loop Inv-rows μ-rows
-add-row c = search needs
-
-rows-less : tie.Need-rows-less Inv-loop μ-loop Inv-rows μ-rows
-rows-less c = search needs
 
 rows-again : tie.Need-rows-again Inv-loop μ-loop Inv-rows μ-rows
 rows-again c = (
@@ -120,23 +72,23 @@ check-apart-spec =
     μ-loop
     Inv-rows
     μ-rows
-    of-requires
-    rows-holds
-    add-partner
-    loop-holds
-    mul-if1
-    shared-slice-read-if1
-    mul-if1-2
-    shared-slice-read-if1-2
-    add-t14
-    cast-t15
-    add-t16
-    cast-t17
-    add-partner-2
-    loop-less
+    (λ c κs. search needs)
+    (λ c. search needs)
+    (λ c. search needs)
+    (λ c. search needs)
+    (λ c. search needs)
+    (λ c. search needs)
+    (λ c. search needs)
+    (λ c. search needs)
+    (λ c. search needs)
+    (λ c. search needs)
+    (λ c. search needs)
+    (λ c. search needs)
+    (λ c. search needs)
+    (λ c. search needs)
     loop-again
-    add-row
-    rows-less
+    (λ c. search needs)
+    (λ c. search needs)
     rows-again
     returns
     returns-2)

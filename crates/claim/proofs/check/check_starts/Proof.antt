@@ -6,23 +6,14 @@ use Rattle.day.proofs.Refusal.{refuses-row-is-check, then-group, then-refused, 
 use Rattle.claim.proofs.check.check_starts.Statement.{statement}
 use Rattle.claim.proofs.check.check_starts.Tie as tie
 
-of-requires : tie.Need-of-requires
-of-requires c κs = search needs
-
 returns : tie.Need-returns
 returns c = stops (stops (record { fault = search needs; says = c .of .ensures }))
-
-check-windows-requires : tie.Need-check-windows-requires
-check-windows-requires c κs = search needs
 
 returns-2 : tie.Need-returns-2
 returns-2 c =
     then-group _
     (goes-on (λ b r. omega (arith, r .fault))
     (then-group _ (then-refused _ (c .before .before .check-windows .ensures) (c .if2 .taken))))
-
-check-apart-requires : tie.Need-check-apart-requires
-check-apart-requires c κs = search needs
 
 returns-3 : tie.Need-returns-3
 returns-3 c =
@@ -34,4 +25,4 @@ returns-3 c =
 pub check-starts-spec : {M : Type 1} → statement M
 check-starts-spec =
     tie.close
-    (tie.spec of-requires returns check-windows-requires returns-2 check-apart-requires returns-3)
+    (tie.spec (λ c κs. search needs) returns (λ c κs. search needs) returns-2 (λ c κs. search needs) returns-3)

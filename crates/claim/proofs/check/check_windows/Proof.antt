@@ -21,24 +21,6 @@ Inv-loop releases deadlines starts row₀ row =
 abbrev μ-loop : tie.MeasureT-loop
 μ-loop releases deadlines starts row₀ row = length releases - row
 
-loop-holds : tie.Need-loop-holds Inv-loop μ-loop
-loop-holds c = search needs
-
-mul-if1 : tie.Need-mul-if1 Inv-loop μ-loop
-mul-if1 c = search needs
-
-shared-slice-read-if1 : tie.Need-shared-slice-read-if1 Inv-loop μ-loop
-shared-slice-read-if1 c = search needs
-
-mul-if1-2 : tie.Need-mul-if1-2 Inv-loop μ-loop
-mul-if1-2 c = search needs
-
-shared-slice-read-if1-2 : tie.Need-shared-slice-read-if1-2 Inv-loop μ-loop
-shared-slice-read-if1-2 c = search needs
-
-mul-if2 : tie.Need-mul-if2 Inv-loop μ-loop
-mul-if2 c = search needs
-
 shared-slice-read-if2 : tie.Need-shared-slice-read-if2 Inv-loop μ-loop
 shared-slice-read-if2 c =
     omega (
@@ -47,18 +29,6 @@ shared-slice-read-if2 c =
           (c .before .before .before .before .before .before .before .before .before .args .deadlines .now)
           (c .before .before .before .before .before .before .before .before .before .pre .0),
     )
-
-mul-if2-2 : tie.Need-mul-if2-2 Inv-loop μ-loop
-mul-if2-2 c = search needs
-
-shared-slice-read-if2-2 : tie.Need-shared-slice-read-if2-2 Inv-loop μ-loop
-shared-slice-read-if2-2 c = search needs
-
-add-t20 : tie.Need-add-t20 Inv-loop μ-loop
-add-t20 c = search needs
-
-cast-t21 : tie.Need-cast-t21 Inv-loop μ-loop
-cast-t21 c = search needs
 
 returns : tie.Need-returns Inv-loop μ-loop
 returns c =
@@ -72,21 +42,12 @@ returns c =
       says = refl;
     })
 
-add-row : tie.Need-add-row Inv-loop μ-loop
-add-row c = search needs
-
-loop-less : tie.Need-loop-less Inv-loop μ-loop
-loop-less c = search needs
-
 loop-again : tie.Need-loop-again Inv-loop μ-loop
 loop-again c = (
   search needs,
   below-more _ _ (c .before .before .before .before .before .before .before .loop .inv .1)
       (omega arith, omega (arith, leb-false)),
 )
-
-of-requires : tie.Need-of-requires Inv-loop μ-loop
-of-requires c κs = search needs
 
 returns-2 : tie.Need-returns-2 Inv-loop μ-loop
 returns-2 c = goes-on (λ b r. r .first .fault (c .before .before .loop .inv .1 (r .row) (omega (arith, r .first .within)))) (c .of .ensures)
@@ -97,20 +58,20 @@ check-windows-spec =
     (tie.spec
     Inv-loop
     μ-loop
-    loop-holds
-    mul-if1
-    shared-slice-read-if1
-    mul-if1-2
-    shared-slice-read-if1-2
-    mul-if2
+    (λ c. search needs)
+    (λ c. search needs)
+    (λ c. search needs)
+    (λ c. search needs)
+    (λ c. search needs)
+    (λ c. search needs)
     shared-slice-read-if2
-    mul-if2-2
-    shared-slice-read-if2-2
-    add-t20
-    cast-t21
+    (λ c. search needs)
+    (λ c. search needs)
+    (λ c. search needs)
+    (λ c. search needs)
     returns
-    add-row
-    loop-less
+    (λ c. search needs)
+    (λ c. search needs)
     loop-again
-    of-requires
+    (λ c κs. search needs)
     returns-2)

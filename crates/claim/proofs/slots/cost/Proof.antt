@@ -15,35 +15,14 @@ Inv-loop power rows cost₀ empty₀ slot₀ cost empty slot = Paying power rows
 abbrev μ-loop : tie.MeasureT-loop
 μ-loop power rows cost₀ empty₀ slot₀ cost empty slot = length rows - slot
 
-next-job-requires : tie.Need-next-job-requires Inv-loop μ-loop
-next-job-requires c κs = search needs
-
 loop-holds : tie.Need-loop-holds Inv-loop μ-loop
 loop-holds c = paying-first (c .next-job .ensures)
-
-mul-if1 : tie.Need-mul-if1 Inv-loop μ-loop
-mul-if1 c = search needs
-
-shared-slice-read-if1 : tie.Need-shared-slice-read-if1 Inv-loop μ-loop
-shared-slice-read-if1 c = search needs
-
-add-empty : tie.Need-add-empty Inv-loop μ-loop
-add-empty c = search needs
-
-price-requires : tie.Need-price-requires Inv-loop μ-loop
-price-requires c κs = search needs
 
 add-cost : tie.Need-add-cost Inv-loop μ-loop
 add-cost c =
     let walked = c .before .before .before .before in
     let start = walked .before .before .before in
     omega (arith, c .price .ensures, price-at-most-length (start .args .power) (walked .loop .empty))
-
-add-slot : tie.Need-add-slot Inv-loop μ-loop
-add-slot c = search needs
-
-loop-less : tie.Need-loop-less Inv-loop μ-loop
-loop-less c = search needs
 
 loop-again : tie.Need-loop-again Inv-loop μ-loop
 loop-again c =
@@ -63,14 +42,14 @@ cost-spec =
     (tie.spec
     Inv-loop
     μ-loop
-    next-job-requires
+    (λ c κs. search needs)
     loop-holds
-    mul-if1
-    shared-slice-read-if1
-    add-empty
-    price-requires
+    (λ c. search needs)
+    (λ c. search needs)
+    (λ c. search needs)
+    (λ c κs. search needs)
     add-cost
-    add-slot
-    loop-less
+    (λ c. search needs)
+    (λ c. search needs)
     loop-again
     returns)

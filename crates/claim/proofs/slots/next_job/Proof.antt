@@ -20,12 +20,6 @@ abbrev μ-loop : tie.MeasureT-loop
 loop-holds : tie.Need-loop-holds Inv-loop μ-loop
 loop-holds c = (search needs, ((λ h. absurd (omega arith)), (λ k h l. absurd (omega arith))))
 
-mul-if1 : tie.Need-mul-if1 Inv-loop μ-loop
-mul-if1 c = search needs
-
-shared-slice-read-if1 : tie.Need-shared-slice-read-if1 Inv-loop μ-loop
-shared-slice-read-if1 c = search needs
-
 returns : tie.Need-returns Inv-loop μ-loop
 returns c =
     record {
@@ -34,12 +28,6 @@ returns c =
       job = λ h. holds-job-true _ _ (c .if1 .taken);
       none = c .before .before .before .loop .inv .1 .1;
     }
-
-add-slot : tie.Need-add-slot Inv-loop μ-loop
-add-slot c = search needs
-
-loop-less : tie.Need-loop-less Inv-loop μ-loop
-loop-less c = search needs
 
 loop-again : tie.Need-loop-again Inv-loop μ-loop
 loop-again c = (
@@ -67,10 +55,10 @@ next-job-spec =
     Inv-loop
     μ-loop
     loop-holds
-    mul-if1
-    shared-slice-read-if1
+    (λ c. search needs)
+    (λ c. search needs)
     returns
-    add-slot
-    loop-less
+    (λ c. search needs)
+    (λ c. search needs)
     loop-again
     returns-2)

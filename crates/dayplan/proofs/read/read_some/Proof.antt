@@ -14,18 +14,6 @@ Inv-loop room₀ retries₀ room retries = (length room ≡ length room₀) × (
 abbrev μ-loop : tie.MeasureT-loop
 μ-loop room₀ retries₀ room retries = 1000 - retries
 
-loop-holds : tie.Need-loop-holds Inv-loop μ-loop
-loop-holds c = search needs
-
-read-requires : tie.Need-read-requires Inv-loop μ-loop
-read-requires c κs = search needs
-
-errno-requires : tie.Need-errno-requires Inv-loop μ-loop
-errno-requires c κs = search needs
-
-judge-requires : tie.Need-judge-requires Inv-loop μ-loop
-judge-requires c κs = search needs
-
 enum-told : tie.Need-enum-told Inv-loop μ-loop
 enum-told c = search needs
 
@@ -41,12 +29,6 @@ loop-less c = omega (arith, below c)
 loop-again : tie.Need-loop-again Inv-loop μ-loop
 loop-again c = (search needs, omega (arith, below c))
 
-enum-known-came : tie.Need-enum-known-came Inv-loop μ-loop
-enum-known-came c = search needs
-
-same-length : tie.Need-same-length Inv-loop μ-loop
-same-length c = search needs
-
 returns : tie.Need-returns Inv-loop μ-loop
 returns c =
     let call = c .before .before .before .before .before .before .before in
@@ -60,14 +42,14 @@ read-some-spec =
     (tie.spec
     Inv-loop
     μ-loop
-    loop-holds
-    read-requires
-    errno-requires
-    judge-requires
+    (λ c. search needs)
+    (λ c κs. search needs)
+    (λ c κs. search needs)
+    (λ c κs. search needs)
     enum-told
     add-retries
     loop-less
     loop-again
-    enum-known-came
-    same-length
+    (λ c. search needs)
+    (λ c. search needs)
     returns)

@@ -17,21 +17,6 @@ Inv-loop file₀ at₀ file at = (length file ≡ length file₀) × (at ≤ len
 abbrev μ-loop : tie.MeasureT-loop
 μ-loop file₀ at₀ file at = length file - at
 
-loop-holds : tie.Need-loop-holds Inv-loop μ-loop
-loop-holds c = search needs
-
-sub-read-some : tie.Need-sub-read-some Inv-loop μ-loop
-sub-read-some c = search needs
-
-part-read-some-start : tie.Need-part-read-some-start Inv-loop μ-loop
-part-read-some-start c = search needs
-
-part-read-some-end : tie.Need-part-read-some-end Inv-loop μ-loop
-part-read-some-end c = search needs
-
-read-some-requires : tie.Need-read-some-requires Inv-loop μ-loop
-read-some-requires c κs = search needs
-
 moved : (c : tie.After-slice-known2 Inv-loop μ-loop) →
     let place = c .before .before .before .before .before .loop in Within (length (place .file) - place .at) (c .before .before .read-some .result)
 moved c =
@@ -42,9 +27,6 @@ advance-requires : tie.Need-advance-requires Inv-loop μ-loop
 advance-requires c κs =
     let place = c .before .before .before .before .before .loop in
     within-more (c .before .before .read-some .result) (length (place .file) - place .at) (2 ^ 63 - place .at) (omega arith) (moved c)
-
-enum-known-next : tie.Need-enum-known-next Inv-loop μ-loop
-enum-known-next c = search needs
 
 kept : (c : tie.After-slice-known2 Inv-loop μ-loop) →
     let place = c .before .before .before .before .before .loop in
@@ -68,9 +50,6 @@ loop-less c = rw (kept (c .before .before .before .before)) (omega (arith, went-
 loop-again : tie.Need-loop-again Inv-loop μ-loop
 loop-again c = rw (kept (c .before .before .before .before)) (search needs, omega (arith, went-on c .1))
 
-enum-known-input : tie.Need-enum-known-input Inv-loop μ-loop
-enum-known-input c = search needs
-
 same-length : tie.Need-same-length Inv-loop μ-loop
 same-length c = kept (c .before .before .before .before) ∙ search needs
 
@@ -81,29 +60,23 @@ returns c =
     over-holds (before .before .before .read-some .result) (c .before .input .given .0 .0) (place .at) _
     (sym (c .before .input .given .1) ∙ c .before .before .before .advance .ensures) (omega (arith, kept before))
 
-same-length-2 : tie.Need-same-length-2 Inv-loop μ-loop
-same-length-2 c = search needs
-
-returns-2 : tie.Need-returns-2 Inv-loop μ-loop
-returns-2 c = search needs
-
 pub read-whole-spec : {M : Type 1} → statement M
 read-whole-spec =
     tie.close
     (tie.spec
     Inv-loop
     μ-loop
-    loop-holds
-    sub-read-some
-    part-read-some-start
-    part-read-some-end
-    read-some-requires
+    (λ c. search needs)
+    (λ c. search needs)
+    (λ c. search needs)
+    (λ c. search needs)
+    (λ c κs. search needs)
     advance-requires
-    enum-known-next
+    (λ c. search needs)
     loop-less
     loop-again
-    enum-known-input
+    (λ c. search needs)
     same-length
     returns
-    same-length-2
-    returns-2)
+    (λ c. search needs)
+    (λ c. search needs))

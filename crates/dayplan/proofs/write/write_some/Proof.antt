@@ -12,18 +12,6 @@ Inv-loop target text retries₀ retries = retries ≤ 1000
 abbrev μ-loop : tie.MeasureT-loop
 μ-loop target text retries₀ retries = 1000 - retries
 
-loop-holds : tie.Need-loop-holds Inv-loop μ-loop
-loop-holds c = search needs
-
-write-requires : tie.Need-write-requires Inv-loop μ-loop
-write-requires c κs = search needs
-
-errno-requires : tie.Need-errno-requires Inv-loop μ-loop
-errno-requires c κs = search needs
-
-judge-requires : tie.Need-judge-requires Inv-loop μ-loop
-judge-requires c κs = search needs
-
 enum-told : tie.Need-enum-told Inv-loop μ-loop
 enum-told c = search needs
 
@@ -39,9 +27,6 @@ loop-less c = omega (arith, below c)
 loop-again : tie.Need-loop-again Inv-loop μ-loop
 loop-again c = omega (arith, below c)
 
-enum-known-came : tie.Need-enum-known-came Inv-loop μ-loop
-enum-known-came c = search needs
-
 returns : tie.Need-returns Inv-loop μ-loop
 returns c =
     let call = c .before .before .before .before .before in
@@ -54,13 +39,13 @@ write-some-spec =
     (tie.spec
     Inv-loop
     μ-loop
-    loop-holds
-    write-requires
-    errno-requires
-    judge-requires
+    (λ c. search needs)
+    (λ c κs. search needs)
+    (λ c κs. search needs)
+    (λ c κs. search needs)
     enum-told
     add-retries
     loop-less
     loop-again
-    enum-known-came
+    (λ c. search needs)
     returns)

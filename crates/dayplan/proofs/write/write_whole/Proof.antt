@@ -16,21 +16,6 @@ Inv-loop target text at₀ at = at ≤ length text
 abbrev μ-loop : tie.MeasureT-loop
 μ-loop target text at₀ at = length text - at
 
-loop-holds : tie.Need-loop-holds Inv-loop μ-loop
-loop-holds c = search needs
-
-sub-write-some : tie.Need-sub-write-some Inv-loop μ-loop
-sub-write-some c = search needs
-
-part-write-some-start : tie.Need-part-write-some-start Inv-loop μ-loop
-part-write-some-start c = search needs
-
-part-write-some-end : tie.Need-part-write-some-end Inv-loop μ-loop
-part-write-some-end c = search needs
-
-write-some-requires : tie.Need-write-some-requires Inv-loop μ-loop
-write-some-requires c κs = search needs
-
 moved : (c : tie.After-write-some Inv-loop μ-loop) →
     let turn = c .before .before .before in
     Within (length (turn .before .before .args .text .now) - turn .loop .at) (c .write-some .result)
@@ -42,9 +27,6 @@ advance-requires : tie.Need-advance-requires Inv-loop μ-loop
 advance-requires c κs =
     let turn = c .before .before .before in
     within-more (c .write-some .result) (length (turn .before .before .args .text .now) - turn .loop .at) (2 ^ 63 - turn .loop .at) (omega arith) (moved c)
-
-enum-known-next : tie.Need-enum-known-next Inv-loop μ-loop
-enum-known-next c = search needs
 
 went-on : (c : tie.After-known-told Inv-loop μ-loop) →
     let turn = c .before .before .before .before .before .before .before in
@@ -61,30 +43,21 @@ loop-less c = omega (arith, went-on c .0, went-on c .1)
 loop-again : tie.Need-loop-again Inv-loop μ-loop
 loop-again c = omega (arith, went-on c .1)
 
-enum-told : tie.Need-enum-told Inv-loop μ-loop
-enum-told c = search needs
-
-returns : tie.Need-returns Inv-loop μ-loop
-returns c = search needs
-
-returns-2 : tie.Need-returns-2 Inv-loop μ-loop
-returns-2 c = search needs
-
 pub write-whole-spec : {M : Type 1} → statement M
 write-whole-spec =
     tie.close
     (tie.spec
     Inv-loop
     μ-loop
-    loop-holds
-    sub-write-some
-    part-write-some-start
-    part-write-some-end
-    write-some-requires
+    (λ c. search needs)
+    (λ c. search needs)
+    (λ c. search needs)
+    (λ c. search needs)
+    (λ c κs. search needs)
     advance-requires
-    enum-known-next
+    (λ c. search needs)
     loop-less
     loop-again
-    enum-told
-    returns
-    returns-2)
+    (λ c. search needs)
+    (λ c. search needs)
+    (λ c. search needs))

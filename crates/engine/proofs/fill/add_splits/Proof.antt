@@ -32,17 +32,11 @@ mul-wide c = omega (arith, c .before .before .before .before .before .before .pr
 shared-slice-read-wide : tie.Need-shared-slice-read-wide Inv-loop μ-loop
 shared-slice-read-wide c = omega (arith, c .before .before .before .before .before .before .before .pre .0 .prepared .deadlines)
 
-wide-requires : tie.Need-wide-requires Inv-loop μ-loop
-wide-requires c κs = search needs
-
 mul-wide-2 : tie.Need-mul-wide-2 Inv-loop μ-loop
 mul-wide-2 c = omega (arith, c .before .before .before .before .before .before .before .before .pre .0 .prepared .releases)
 
 shared-slice-read-wide-2 : tie.Need-shared-slice-read-wide-2 Inv-loop μ-loop
 shared-slice-read-wide-2 c = omega (arith, c .before .before .before .before .before .before .before .before .before .pre .0 .prepared .releases)
-
-wide-requires-2 : tie.Need-wide-requires-2 Inv-loop μ-loop
-wide-requires-2 c κs = search needs
 
 loop-holds : tie.Need-loop-holds Inv-loop μ-loop
 loop-holds c =
@@ -62,9 +56,6 @@ mul-wide-3 c = omega (arith, c .before .before .before .before .before .before .
 
 shared-slice-read-wide-3 : tie.Need-shared-slice-read-wide-3 Inv-loop μ-loop
 shared-slice-read-wide-3 c = omega (arith, c .before .before .before .before .before .before .before .before .before .before .before .before .before .pre .0 .prepared .marked)
-
-wide-requires-3 : tie.Need-wide-requires-3 Inv-loop μ-loop
-wide-requires-3 c κs = search needs
 
 -- within the loop, each fact by itself, which keeps the check small
 module _ (c : tie.After-wide3 Inv-loop μ-loop) where
@@ -158,14 +149,14 @@ add-splits-spec =
     μ-loop
     mul-wide
     shared-slice-read-wide
-    wide-requires
+    (λ c κs. search needs)
     mul-wide-2
     shared-slice-read-wide-2
-    wide-requires-2
+    (λ c κs. search needs)
     loop-holds
     mul-wide-3
     shared-slice-read-wide-3
-    wide-requires-3
+    (λ c κs. search needs)
     add-split-requires
     add-split
     loop-less

@@ -8,33 +8,12 @@ use borrow.Author.Needs.{needs}
 use Rattle.engine.proofs.fill.fill_level.Statement.{statement}
 use Rattle.engine.proofs.fill.fill_level.Tie as tie
 
-sum-rows-requires : tie.Need-sum-rows-requires
-sum-rows-requires c κs = search needs
-
-mul-wide : tie.Need-mul-wide
-mul-wide c = search needs
-
-shared-slice-read-wide : tie.Need-shared-slice-read-wide
-shared-slice-read-wide c = search needs
-
-wide-requires : tie.Need-wide-requires
-wide-requires c κs = search needs
-
-add-after : tie.Need-add-after
-add-after c = search needs
-
 copy-level-requires : tie.Need-copy-level-requires
 copy-level-requires c κs =
     let f = c .before .before .before .before .before .before .before .before .before .before .before .before .before .before .before .before .pre .0 in (
       copyable (fillable-added f (at (now (c .before .before .before .before .before .before .before .before .before .before .before .before .before .before .before .before .args .rel)) (c .before .before .before .before .before .before .before .before .before .before .before .before .before .before .before .before .args .job) + 1) _ (c .before .before .before .before .before .before .before .sum-rows .ensures .1)),
       omega (arith, released-before-end f, c .before .wide .ensures .0),
     )
-
-same-length : tie.Need-same-length
-same-length c = search needs
-
-same-length-2 : tie.Need-same-length-2
-same-length-2 c = search needs
 
 returns : tie.Need-returns
 returns c =
@@ -49,12 +28,12 @@ pub fill-level-spec : {M : Type 1} → statement M
 fill-level-spec =
     tie.close
     (tie.spec
-    sum-rows-requires
-    mul-wide
-    shared-slice-read-wide
-    wide-requires
-    add-after
+    (λ c κs. search needs)
+    (λ c. search needs)
+    (λ c. search needs)
+    (λ c κs. search needs)
+    (λ c. search needs)
     copy-level-requires
-    same-length
-    same-length-2
+    (λ c. search needs)
+    (λ c. search needs)
     returns)

@@ -14,12 +14,6 @@ use Rattle.engine.proofs.fill.lesser.Tie as tie
 same-with-sign : (x : ℕ) → x < 32768 → toZ w16 (ofZ w16 (pos x)) ≡ pos x
 same-with-sign x h = toZ-ofZ w16 (pos x) (record { sfits = h })
 
-cast-if1 : tie.Need-cast-if1
-cast-if1 c = search needs
-
-cast-if1-2 : tie.Need-cast-if1-2
-cast-if1-2 c = search needs
-
 returns : tie.Need-returns
 returns c =
     let start = c .before in
@@ -33,4 +27,4 @@ returns-2 c =
     omega (arith, ltb-false (a .a) (a .b) (rw (same-with-sign (a .a) (omega arith), same-with-sign (a .b) (omega arith)) at (c .if1 .left)))
 
 pub lesser-spec : {M : Type 1} → statement M
-lesser-spec = tie.close (tie.spec cast-if1 cast-if1-2 returns returns-2)
+lesser-spec = tie.close (tie.spec (λ c. search needs) (λ c. search needs) returns returns-2)

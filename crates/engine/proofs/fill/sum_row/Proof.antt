@@ -20,21 +20,6 @@ given s = lent (s .args .shape) (now (s .args .begins)) (now (s .args .rel)) (no
 from-there : (s : tie.Start) → s .args .from < s .args .shape .points
 from-there s = omega (arith, s .pre .1 .0, released-before-end (s .pre .0))
 
-mul-wide : tie.Need-mul-wide
-mul-wide c = search needs
-
-shared-slice-read-wide : tie.Need-shared-slice-read-wide
-shared-slice-read-wide c = search needs
-
-wide-requires : tie.Need-wide-requires
-wide-requires c κs = search needs
-
-add-after : tie.Need-add-after
-add-after c = search needs
-
-add-row-of : tie.Need-add-row-of
-add-row-of c = search needs
-
 row-of-requires : tie.Need-row-of-requires
 row-of-requires c κs =
     let s = c .before .before .before .before .before .before .before .before in (
@@ -78,12 +63,6 @@ unload-requires c κs =
       ),
     )
 
-same-length : tie.Need-same-length
-same-length c = search needs
-
-same-length-2 : tie.Need-same-length-2
-same-length-2 c = search needs
-
 returns : tie.Need-returns
 returns c =
     let copied = c .before .before .before .before .before .before .before .before .before .before .before .before .before .before in
@@ -110,15 +89,15 @@ pub sum-row-spec : {M : Type 1} → statement M
 sum-row-spec =
     tie.close
     (tie.spec
-    mul-wide
-    shared-slice-read-wide
-    wide-requires
-    add-after
-    add-row-of
+    (λ c. search needs)
+    (λ c. search needs)
+    (λ c κs. search needs)
+    (λ c. search needs)
+    (λ c. search needs)
     row-of-requires
     copy-row-requires
     add-splits-requires
     unload-requires
-    same-length
-    same-length-2
+    (λ c. search needs)
+    (λ c. search needs)
     returns)

@@ -8,12 +8,6 @@ use borrow.Author.Needs.{needs}
 use Rattle.engine.proofs.mark.lower_mark.Statement.{statement}
 use Rattle.engine.proofs.mark.lower_mark.Tie as tie
 
-mul-if1 : tie.Need-mul-if1
-mul-if1 c = search needs
-
-slice-read-if1 : tie.Need-slice-read-if1
-slice-read-if1 c = search needs
-
 returns : tie.Need-returns
 returns c = record {
   long = refl;
@@ -21,18 +15,6 @@ returns c = record {
   closed = λ h. h;
   others = λ t n. refl;
 }
-
-cast-marks : tie.Need-cast-marks
-cast-marks c = search needs
-
-mul-marks : tie.Need-mul-marks
-mul-marks c = search needs
-
-slice-write-marks : tie.Need-slice-write-marks
-slice-write-marks c = search needs
-
-same-length : tie.Need-same-length
-same-length c = search needs
 
 returns-2 : tie.Need-returns-2
 returns-2 c =
@@ -49,11 +31,11 @@ pub lower-mark-spec : {M : Type 1} → statement M
 lower-mark-spec =
     tie.close
     (tie.spec
-    mul-if1
-    slice-read-if1
+    (λ c. search needs)
+    (λ c. search needs)
     returns
-    cast-marks
-    mul-marks
-    slice-write-marks
-    same-length
+    (λ c. search needs)
+    (λ c. search needs)
+    (λ c. search needs)
+    (λ c. search needs)
     returns-2)

@@ -35,13 +35,10 @@ copy-requires c κs =
       rows-apart (s .pre .0) (a .from) (omega arith) (below .result) (here .result) (a .hi) (below .ensures) (here .ensures) (s .pre .1 .1),
     )
 
-same-length : tie.Need-same-length
-same-length c = search needs
-
 returns : tie.Need-returns
 returns c = rw (c .before .before .before .before .before .row-of .ensures, c .before .before .before .before .row-of2 .ensures) at (c .before .before .copy .ensures)
 
 pub copy-row-spec : {M : Type 1} → statement M
 copy-row-spec =
     tie.close
-    (tie.spec row-of-requires add-row-of row-of-requires-2 copy-requires same-length returns)
+    (tie.spec row-of-requires add-row-of row-of-requires-2 copy-requires (λ c. search needs) returns)

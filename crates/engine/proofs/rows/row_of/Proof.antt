@@ -10,12 +10,6 @@ mul-result : tie.Need-mul-result
 unfolding row
 mul-result c = omega arith
 
-mul-result-2 : tie.Need-mul-result-2
-mul-result-2 c = search needs
-
-shared-slice-read-result : tie.Need-shared-slice-read-result
-shared-slice-read-result c = search needs
-
 add-result : tie.Need-add-result
 unfolding row
 add-result c = omega arith
@@ -26,4 +20,4 @@ returns c = refl
 
 pub row-of-spec : {M : Type 1} → statement M
 row-of-spec =
-    tie.close (tie.spec mul-result mul-result-2 shared-slice-read-result add-result returns)
+    tie.close (tie.spec mul-result (λ c. search needs) (λ c. search needs) add-result returns)

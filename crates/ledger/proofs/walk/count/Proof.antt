@@ -17,23 +17,11 @@ Inv-loop power rows first job₀ awake₀ asleep₀ empty₀ slot₀ job awake a
 abbrev μ-loop : tie.MeasureT-loop
 μ-loop power rows first job₀ awake₀ asleep₀ empty₀ slot₀ job awake asleep empty slot = length rows - slot
 
-next-job-requires : tie.Need-next-job-requires Inv-loop μ-loop
-next-job-requires c κs = search needs
-
 loop-holds : tie.Need-loop-holds Inv-loop μ-loop
 loop-holds c = walked-first (next-first (c .next-job .ensures))
 
-mul-if1 : tie.Need-mul-if1 Inv-loop μ-loop
-mul-if1 c = search needs
-
-shared-slice-read-if1 : tie.Need-shared-slice-read-if1 Inv-loop μ-loop
-shared-slice-read-if1 c = search needs
-
 add-empty : tie.Need-add-empty Inv-loop μ-loop
 add-empty c = omega (arith, c .before .before .before .loop .inv .sum)
-
-slept-requires : tie.Need-slept-requires Inv-loop μ-loop
-slept-requires c κs = search needs
 
 add-asleep : tie.Need-add-asleep Inv-loop μ-loop
 add-asleep c = omega (arith, walked-room (c .before .before .before .before .loop .inv) (c .slept .ensures))
@@ -46,12 +34,6 @@ add-awake c = omega (arith, walked-room (c .before .before .before .before .loop
 
 add-job : tie.Need-add-job Inv-loop μ-loop
 add-job c = omega (arith, walked-room (c .before .before .before .before .loop .inv) (c .slept .ensures))
-
-add-slot : tie.Need-add-slot Inv-loop μ-loop
-add-slot c = search needs
-
-loop-less : tie.Need-loop-less Inv-loop μ-loop
-loop-less c = search needs
 
 loop-again : tie.Need-loop-again Inv-loop μ-loop
 loop-again c =
@@ -74,18 +56,18 @@ count-spec =
     (tie.spec
     Inv-loop
     μ-loop
-    next-job-requires
+    (λ c κs. search needs)
     loop-holds
-    mul-if1
-    shared-slice-read-if1
+    (λ c. search needs)
+    (λ c. search needs)
     add-empty
-    slept-requires
+    (λ c κs. search needs)
     add-asleep
     sub-awake
     add-awake
     add-job
-    add-slot
-    loop-less
+    (λ c. search needs)
+    (λ c. search needs)
     loop-again
     cast-t15
     returns)

@@ -11,37 +11,19 @@ use Rattle.ledger.proofs.Run.{run-before, run-after, run-gap}
 use Rattle.ledger.proofs.walk.fill_at.Statement.{statement}
 use Rattle.ledger.proofs.walk.fill_at.Tie as tie
 
-mul-row : tie.Need-mul-row
-mul-row c = search needs
-
-shared-slice-read-row : tie.Need-shared-slice-read-row
-shared-slice-read-row c = search needs
-
 returns : tie.Need-returns
 returns c = by-job (c .if1 .taken)
 
-run-start-requires : tie.Need-run-start-requires
-run-start-requires c κs = search needs
-
 returns-2 : tie.Need-returns-2
 returns-2 c = run-before (c .before .before .if1 .left) (c .before .run-start .ensures) (c .if2 .taken)
-
-next-job-requires : tie.Need-next-job-requires
-next-job-requires c κs = search needs
 
 returns-3 : tie.Need-returns-3
 returns-3 c =
     run-after (c .before .before .before .before .if1 .left) (c .before .before .before .run-start .ensures) (c .before .before .if2 .left)
     (c .before .next-job .ensures) (c .if3 .taken)
 
-sub-asleep : tie.Need-sub-asleep
-sub-asleep c = search needs
-
 cast-asleep : tie.Need-cast-asleep
 cast-asleep c = omega (arith, next-within (c .before .next-job .ensures) (omega arith))
-
-asleep-requires : tie.Need-asleep-requires
-asleep-requires c κs = search needs
 
 -- a job on either side makes it a gap
 gap : (c : tie.Else3) →
@@ -63,15 +45,15 @@ pub fill-at-spec : {M : Type 1} → statement M
 fill-at-spec =
     tie.close
     (tie.spec
-    mul-row
-    shared-slice-read-row
+    (λ c. search needs)
+    (λ c. search needs)
     returns
-    run-start-requires
+    (λ c κs. search needs)
     returns-2
-    next-job-requires
+    (λ c κs. search needs)
     returns-3
-    sub-asleep
+    (λ c. search needs)
     cast-asleep
-    asleep-requires
+    (λ c κs. search needs)
     returns-4
     returns-5)

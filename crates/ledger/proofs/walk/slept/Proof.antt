@@ -4,9 +4,6 @@ use borrow.Author.Needs.{needs}
 use Rattle.ledger.proofs.walk.slept.Statement.{statement}
 use Rattle.ledger.proofs.walk.slept.Tie as tie
 
-asleep-requires : tie.Need-asleep-requires
-asleep-requires c κs = search needs
-
 returns : tie.Need-returns
 returns c = rw (sym (c .before .asleep .ensures) ∙ c .if1 .taken)
 
@@ -14,4 +11,4 @@ returns-2 : tie.Need-returns-2
 returns-2 c = rw (sym (c .before .asleep .ensures) ∙ c .if1 .left)
 
 pub slept-spec : {M : Type 1} → statement M
-slept-spec = tie.close (tie.spec asleep-requires returns returns-2)
+slept-spec = tie.close (tie.spec (λ c κs. search needs) returns returns-2)

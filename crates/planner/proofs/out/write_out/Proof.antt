@@ -32,9 +32,6 @@ mul-slot-of c = omega arith
 shared-slice-read-slot-of : tie.Need-shared-slice-read-slot-of Inv-loop μ-loop
 shared-slice-read-slot-of c = omega (arith, c .before .before .before .before .before .before .before .pre .0)
 
-slot-of-requires : tie.Need-slot-of-requires Inv-loop μ-loop
-slot-of-requires c κs = search needs
-
 -- the row is one of the starts
 there : (c : tie.After-slot-of Inv-loop μ-loop) → at (c .before .before .before .before .before .before .before .before .args .order .now) (c .before .before .before .before .loop .number) < length (c .before .before .before .before .loop .starts)
 there c = omega (arith, c .before .before .before .before .loop .inv .1 .long, c .before .before .before .before .before .before .before .before .pre .1 .0 (c .before .before .before .before .loop .number) (omega arith))
@@ -79,7 +76,7 @@ write-out-spec =
     shared-slice-read-row
     mul-slot-of
     shared-slice-read-slot-of
-    slot-of-requires
+    (λ c κs. search needs)
     mul-starts
     slice-write-starts
     add-number

@@ -9,19 +9,10 @@ use Rattle.planner.proofs.price.far_price.Tie as tie
 returns : tie.Need-returns
 returns c = rw (c .if1 .taken) (sym (far-price-start (c .before .args .day) (c .before .args .to)))
 
-add-if2 : tie.Need-add-if2
-add-if2 c = search needs
-
 returns-2 : tie.Need-returns-2
 returns-2 c =
     let a = c .before .before .before .args in
     sym (far-price-end (a .day) (a .from) (a .to) (omega arith))
-
-sub-price : tie.Need-sub-price
-sub-price c = search needs
-
-price-requires : tie.Need-price-requires
-price-requires c κs = search needs
 
 returns-3 : tie.Need-returns-3
 returns-3 c =
@@ -31,4 +22,4 @@ returns-3 c =
     (λ q. c .before .if2 .left (omega arith)))
 
 pub far-price-spec : {M : Type 1} → statement M
-far-price-spec = tie.close (tie.spec returns add-if2 returns-2 sub-price price-requires returns-3)
+far-price-spec = tie.close (tie.spec returns (λ c. search needs) returns-2 (λ c. search needs) (λ c κs. search needs) returns-3)

@@ -29,9 +29,6 @@ cast-far-price c = omega arith
 cast-far-price-2 : tie.Need-cast-far-price-2 Inv-loop μ-loop
 cast-far-price-2 c = omega arith
 
-far-price-requires : tie.Need-far-price-requires Inv-loop μ-loop
-far-price-requires c κs = search needs
-
 add-table : tie.Need-add-table Inv-loop μ-loop
 add-table c = omega (arith, c .before .before .before .loop .inv .3 .long)
 
@@ -74,7 +71,7 @@ price-row-spec =
     loop-holds
     cast-far-price
     cast-far-price-2
-    far-price-requires
+    (λ c κs. search needs)
     add-table
     mul-table
     slice-write-table

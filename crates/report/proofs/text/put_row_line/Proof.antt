@@ -10,14 +10,8 @@ use Rattle.report.proofs.text.put_row_line.Tie as tie
 put-decimal-requires : tie.Need-put-decimal-requires
 put-decimal-requires c κs = omega (arith, decimal-length 1 (c .before .before .args .row) (omega arith))
 
-slice-aggregate-put-numbers : tie.Need-slice-aggregate-put-numbers
-slice-aggregate-put-numbers c = search needs
-
 put-numbers-requires : tie.Need-put-numbers-requires
 put-numbers-requires c κs = omega (arith, decimal-length 1 (c .before .before .before .before .before .before .before .args .row) (omega arith))
-
-same-length : tie.Need-same-length
-same-length c = search needs
 
 returns : tie.Need-returns
 unfolding row-line
@@ -31,7 +25,7 @@ put-row-line-spec =
     tie.close
     (tie.spec
     put-decimal-requires
-    slice-aggregate-put-numbers
+    (λ c. search needs)
     put-numbers-requires
-    same-length
+    (λ c. search needs)
     returns)

@@ -24,23 +24,8 @@ loop-holds : tie.Need-loop-holds Inv-loop μ-loop
 unfolding row-lines
 loop-holds c = (omega arith, refl, omega arith, appended-none _ _ (omega arith))
 
-add-put-row-line : tie.Need-add-put-row-line Inv-loop μ-loop
-add-put-row-line c = search needs
-
-cast-put-row-line : tie.Need-cast-put-row-line Inv-loop μ-loop
-cast-put-row-line c = search needs
-
-at-or-zero-requires : tie.Need-at-or-zero-requires Inv-loop μ-loop
-at-or-zero-requires c κs = search needs
-
 put-row-line-requires : tie.Need-put-row-line-requires Inv-loop μ-loop
 put-row-line-requires c κs = (omega arith, omega arith)
-
-add-row : tie.Need-add-row Inv-loop μ-loop
-add-row c = search needs
-
-loop-less : tie.Need-loop-less Inv-loop μ-loop
-loop-less c = search needs
 
 loop-again : tie.Need-loop-again Inv-loop μ-loop
 loop-again c = (
@@ -51,9 +36,6 @@ loop-again c = (
       (appended-join (omega arith) (c .before .before .before .before .before .before .loop .inv .3)
       (rw (add-one, c .before .before .before .at-or-zero .ensures) at (c .before .before .put-row-line .ensures .1))),
 )
-
-same-length : tie.Need-same-length Inv-loop μ-loop
-same-length c = search needs
 
 returns : tie.Need-returns Inv-loop μ-loop
 returns c =
@@ -67,12 +49,12 @@ put-row-lines-spec =
     Inv-loop
     μ-loop
     loop-holds
-    add-put-row-line
-    cast-put-row-line
-    at-or-zero-requires
+    (λ c. search needs)
+    (λ c. search needs)
+    (λ c κs. search needs)
     put-row-line-requires
-    add-row
-    loop-less
+    (λ c. search needs)
+    (λ c. search needs)
     loop-again
-    same-length
+    (λ c. search needs)
     returns)

@@ -6,14 +6,8 @@ use Rattle.report.proofs.Decimal.{decimal-length}
 use Rattle.report.proofs.text.put_spaced.Statement.{statement}
 use Rattle.report.proofs.text.put_spaced.Tie as tie
 
-put-byte-requires : tie.Need-put-byte-requires
-put-byte-requires c κs = search needs
-
 put-decimal-requires : tie.Need-put-decimal-requires
 put-decimal-requires c κs = omega (arith, decimal-length 4 (c .before .before .before .before .before .before .args .number) (omega arith))
-
-same-length : tie.Need-same-length
-same-length c = search needs
 
 returns : tie.Need-returns
 returns c = (
@@ -22,4 +16,4 @@ returns c = (
 )
 
 pub put-spaced-spec : {M : Type 1} → statement M
-put-spaced-spec = tie.close (tie.spec put-byte-requires put-decimal-requires same-length returns)
+put-spaced-spec = tie.close (tie.spec (λ c κs. search needs) put-decimal-requires (λ c. search needs) returns)

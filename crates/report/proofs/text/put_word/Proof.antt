@@ -21,17 +21,8 @@ abbrev μ-loop : tie.MeasureT-loop
 loop-holds : tie.Need-loop-holds Inv-loop μ-loop
 loop-holds c = (omega arith, refl, appended-none _ _ (omega arith))
 
-shared-slice-read-put-byte : tie.Need-shared-slice-read-put-byte Inv-loop μ-loop
-shared-slice-read-put-byte c = search needs
-
 put-byte-requires : tie.Need-put-byte-requires Inv-loop μ-loop
 put-byte-requires c κs = omega (arith, simp length-take at (c .before .before .before .loop .inv .2 .ends))
-
-add-i : tie.Need-add-i Inv-loop μ-loop
-add-i c = search needs
-
-loop-less : tie.Need-loop-less Inv-loop μ-loop
-loop-less c = search needs
 
 loop-again : tie.Need-loop-again Inv-loop μ-loop
 loop-again c = (
@@ -40,9 +31,6 @@ loop-again c = (
   rw (add-one, take-suc {A = ℕ} _ _ 0 (c .before .before .before .before .before .loop-test .taken))
       (appended-join (omega arith) (c .before .before .before .before .before .before .loop .inv .2) (c .before .before .put-byte .ensures)),
 )
-
-same-length : tie.Need-same-length Inv-loop μ-loop
-same-length c = search needs
 
 returns : tie.Need-returns Inv-loop μ-loop
 returns c = rw (take-all _ _ (c .loop-test .left)) at (c .before .loop .inv .2)
@@ -54,10 +42,10 @@ put-word-spec =
     Inv-loop
     μ-loop
     loop-holds
-    shared-slice-read-put-byte
+    (λ c. search needs)
     put-byte-requires
-    add-i
-    loop-less
+    (λ c. search needs)
+    (λ c. search needs)
     loop-again
-    same-length
+    (λ c. search needs)
     returns)
