@@ -14,7 +14,7 @@ use Rattle.day.specs.Far.{far-price}
 use Rattle.day.specs.Zero.{zeroed}
 use Rattle.day.proofs.Cases.{give, on-le}
 use Rattle.day.proofs.Zero.{zeroed-length, zeroed-below, zeroed-beyond}
-use Rattle.rule.specs.Span.{Problem, read-back}
+use Rattle.rule.specs.Span.{Problem, value, read-back}
 use Rattle.rule.specs.Whole.{problem, whole-back, ByNumber, Ready}
 use Rattle.rule.proofs.Whole.{whole-none, whole-best, whole-cost, back-in-day}
 use Rattle.engine.specs.Places.{Span, place, need as places}
@@ -25,7 +25,7 @@ use Rattle.engine.specs.ReadBack.{Readable, Holds, ReadBack}
 use Rattle.engine.proofs.Places.{place-below, need-more}
 use Rattle.planner.specs.Table.{need}
 use Rattle.planner.specs.steps.Jobs.{none, slots-of, Given, Asks}
-use Rattle.planner.specs.steps.Finished.{Tabled, Laid, whole-value, Finished}
+use Rattle.planner.specs.steps.Finished.{Tabled, Laid, Finished}
 use Rattle.day.specs.Planned.{costs, none-proper, Planned, Never}
 use Rattle.planner.proofs.Table.{need-square}
 use Rattle.planner.proofs.Jobs.{far-price-bounded}
@@ -92,10 +92,10 @@ module _ {day : Day} {G : Lent} {n : ℕ} (given : Given day G n) (old : List �
         ∙ ap (λ (x : ℕ). zeroed x old) q
 
     module _ (P : Problem) (a : Asks day G n P) where
-      pub whole-read : (v : ℕ) → v ≡ at new (place (layout-of G) n 0 end) → v ≡ whole-value day P n
+      pub whole-read : (v : ℕ) → v ≡ at new (place (layout-of G) n 0 end) → v ≡ value P n 0 (day .slots + 2)
       whole-read v q = q ∙ t .values P a n (omega arith) 0 end whole-span
 
-      pub whole-holds : whole-value day P n < none → Holds P G new n 0 end
+      pub whole-holds : value P n 0 (day .slots + 2) < none → Holds P G new n 0 end
       whole-holds h = record {
         posed = a .posed;
         levels = t .values P a;
@@ -132,13 +132,13 @@ module _ (day : Day) (w : Windows) (order starts table : List ℕ) (R : Ready da
   P = problem day w (at order) none
 
   -- the starts laid out by number are those of the whole day's plan: each is a slot of the day
-  laid-back : (p : List ℕ) → whole-value day P (w .count) < none
+  laid-back : (p : List ℕ) → value P (w .count) 0 (day .slots + 2) < none
       → Laid order (w .count) (whole-back day w (at order) none) starts p
       → ByNumber (w .count) (at order) (at p) (whole-back day w (at order) none)
   laid-back p small l k h = omega (arith, l .slot k h, back-in-day day w (at order) none R small k h)
 
   module _ (a : Answer) (p t : List ℕ) (F : Finished day P order (w .count) starts table a p t) where
-    found-planned : whole-value day P (w .count) < none → Planned Never (need (day .slots) (w .count)) day w starts table a p t
+    found-planned : value P (w .count) 0 (day .slots + 2) < none → Planned Never (need (day .slots) (w .count)) day w starts table a p t
     found-planned small =
         give (F .found small)
         (λ f.
@@ -158,7 +158,7 @@ module _ (day : Day) (w : Windows) (order starts table : List ℕ) (R : Ready da
           kept = λ e g. absurd (e code);
         })
 
-    missing-planned : none ≤ whole-value day P (w .count) → Planned Never (need (day .slots) (w .count)) day w starts table a p t
+    missing-planned : none ≤ value P (w .count) 0 (day .slots + 2) → Planned Never (need (day .slots) (w .count)) day w starts table a p t
     missing-planned h =
         give (F .not-found h)
         (λ f.
@@ -172,4 +172,4 @@ module _ (day : Day) (w : Windows) (order starts table : List ℕ) (R : Ready da
         })
 
     pub finished-planned : Planned Never (need (day .slots) (w .count)) day w starts table a p t
-    finished-planned = on-le none (whole-value day P (w .count)) missing-planned found-planned
+    finished-planned = on-le none (value P (w .count) 0 (day .slots + 2)) missing-planned found-planned

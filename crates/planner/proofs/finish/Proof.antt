@@ -7,12 +7,12 @@ use lib.ListN.{length}
 use denote.Ref.{now}
 use Rattle.day.specs.Answer.{says, done}
 use Rattle.day.specs.Zero.{zeroed}
-use Rattle.rule.specs.Span.{Problem}
+use Rattle.rule.specs.Span.{Problem, value}
 use Rattle.rule.specs.Whole.{without-ends}
 use Rattle.engine.specs.Lent.{Lent, lent}
 use Rattle.planner.specs.Table.{need}
 use Rattle.planner.specs.steps.Jobs.{Asks}
-use Rattle.planner.specs.steps.Finished.{Tabled, whole-value}
+use Rattle.planner.specs.steps.Finished.{Tabled}
 use Rattle.planner.proofs.Finished.{whole-there, table-readable, table-cleared, whole-read, whole-holds, laid-of}
 use borrow.Author.Needs.{needs}
 use Rattle.planner.proofs.finish.Statement.{statement}
@@ -51,7 +51,7 @@ module _ (c : tie.After-value-at) where
   abbrev f : tie.After-fill-table
   f = c .before .before .before .before
 
-  value-read : (P : Problem) → Asks (start f .args .day) (given f) (n f) P → c .value-at .result ≡ whole-value (start f .args .day) P (n f)
+  value-read : (P : Problem) → Asks (start f .args .day) (given f) (n f) P → c .value-at .result ≡ value P (n f) 0 (start f .args .day .slots + 2)
   value-read P a =
       whole-read (start f .pre .0) (now (start f .args .table)) (start f .pre .1 .0) _ (filled f) P a _ (rw (end f) at (c .value-at .ensures))
 

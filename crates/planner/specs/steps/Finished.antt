@@ -29,13 +29,9 @@ pub record Laid (order : List ℕ) (n : ℕ) (b : ℕ → ℕ) (starts starts′
   pub slot : (k : ℕ) → k < n → at starts′ (at order k) ≡ b k - 1
   pub others : (j : ℕ) → ((k : ℕ) → k < n → j ≡ at order k → ⊥) → at starts′ j ≡ at starts j
 
--- the value of the whole day for n jobs of a problem
-abbrev pub whole-value : Day → Problem → ℕ → ℕ
-whole-value day P n = value P n 0 (day .slots + 2)
-
--- n jobs of a problem are finished with: the answer by that value, the starts, and the table set to zero
+-- n jobs of a problem are finished with: the answer by the value of the whole day, the starts, and the table set to zero
 pub record Finished (day : Day) (P : Problem) (order : List ℕ) (n : ℕ) (starts table : List ℕ) (a : Answer) (starts′ table′ : List ℕ) : Type 0 where
-  pub found : whole-value day P n < none
-      → (a ≡ says done (without-ends day n (whole-value day P n)) 0) × Laid order n (read-back P n 0 (day .slots + 2)) starts starts′
-  pub not-found : none ≤ whole-value day P n → (a ≡ says no-plan 0 0) × (starts′ ≡ starts)
+  pub found : value P n 0 (day .slots + 2) < none
+      → (a ≡ says done (without-ends day n (value P n 0 (day .slots + 2))) 0) × Laid order n (read-back P n 0 (day .slots + 2)) starts starts′
+  pub not-found : none ≤ value P n 0 (day .slots + 2) → (a ≡ says no-plan 0 0) × (starts′ ≡ starts)
   pub cleared : table′ ≡ zeroed (need (day .slots) n) table
