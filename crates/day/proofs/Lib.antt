@@ -4,6 +4,7 @@ pub mod Refusal
 pub mod Check
 pub mod Decided
 pub mod Zero
+pub mod Changed
 pub mod FirstFilled
 pub mod Numbering
 pub mod Span

@@ -14,3 +14,4 @@ pub mod Check
 pub mod Zero
 pub mod Planned
 pub mod FirstFilled
+pub mod Changed
