@@ -15,14 +15,14 @@ typedef void fill(uint16_t *table, unsigned slots, unsigned wake, unsigned count
 void fill_by_cell(uint16_t *table, unsigned slots, unsigned wake, unsigned count, const uint16_t *release, const uint16_t *deadline,
                   const uint16_t *lowest);
 
-// The planner's own order: for each split a row of sums is lowered, both runs contiguous.
-void fill_by_row(uint16_t *table, unsigned slots, unsigned wake, unsigned count, const uint16_t *release, const uint16_t *deadline,
+// The planner's own order: for each split a list of sums is lowered, both runs contiguous.
+void fill_by_band(uint16_t *table, unsigned slots, unsigned wake, unsigned count, const uint16_t *release, const uint16_t *deadline,
                  const uint16_t *lowest);
 
 // Plans a list with one of the fills: 7 where there is no plan, else 0 with the cost and the starts in row order. Clears the table.
 int plan_in_c(fill *fill, unsigned slots, unsigned wake, unsigned count, const uint16_t *releases, const uint16_t *deadlines,
               uint16_t *starts, uint16_t *cost, uint16_t *table);
 
-// How many sums `fill_by_row` looks at.
+// How many sums `fill_by_band` looks at.
 unsigned long inner_steps(unsigned slots, unsigned count, const uint16_t *releases, const uint16_t *deadlines);
 #endif

@@ -21,7 +21,7 @@
  *   only reads may overlap. What a call fills (starts, table, the room for read jobs, the file) needs no value before. Nothing else is
  *   asked: what a call cannot take it refuses by a code.
  *   No call allocates, keeps a pointer or any state, or touches memory that it was not lent: calls may run side by side in threads, as long as
- *   none writes a buffer that another was lent. Of stack chaskuri_plan takes at most 13,168 bytes, every other call less than 1,200: that is
+ *   none writes a buffer that another was lent. Of stack chaskuri_plan takes at most 13,296 bytes, every other call less than 1,200: that is
  *   measured, by bench/stack.c with the kit rattle-kit-5b. What is said of each call below is proved, in crates/chaskuri. */
 #ifndef CHASKURI_H
 #define CHASKURI_H

@@ -1,4 +1,4 @@
 pub mod ByValue
-pub mod Promises
+pub mod CopyPromises
 pub mod PutPromises
 pub mod Unique

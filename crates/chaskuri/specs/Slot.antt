@@ -7,7 +7,7 @@ use Rattle.day.specs.Windows.{Windows}
 use Rattle.ledger.specs.declared.Fill.{Fill}
 use Rattle.ledger.specs.declared.Fill.the-variants.{Job, Before, Awake, Asleep, After}
 use Rattle.ledger.specs.declared.SlotAnswer.{SlotAnswer}
-use Rattle.ledger.specs.Count.{column}
+use Rattle.ledger.specs.Count.{counted-as}
 use Rattle.ledger.specs.Promise.{SlotPromise}
 use Rattle.chaskuri.specs.declared.numbers.SlotNumbers.{SlotNumbers}
 
@@ -19,13 +19,13 @@ row-in Awake = 0
 row-in Asleep = 0
 row-in After = 0
 
--- what fills the slot is named by its column of the ledger
+-- what fills the slot is named by the ledger's count that it belongs to
 abbrev pub in-numbers : SlotAnswer → SlotNumbers
 in-numbers shown =
     record {
       answer = shown .answer;
       slot = shown .held .slot;
-      filling = column (shown .held .fill);
+      filling = counted-as (shown .held .fill);
       row = row-in (shown .held .fill);
     }
 

@@ -1,51 +1,51 @@
 // Each entry point over the rows of a list by value: its number form, over the columns of the rows.
 use crate::numbers::SlotNumbers;
 use crate::numbers::of_slot;
-use day::Answer;
+use checks::Answer;
+use checks::code;
 use day::Day;
-use day::code;
 use day::wide;
 use dayfile::Reading;
 use ledger::LedgerAnswer;
 use ledger::SlotAnswer;
 use rows::Rows;
 use rows::rows_put;
-ghost use Rattle.day.specs.Refusal.{_then_, Passed};
-ghost use Rattle.day.specs.Check.{TimesCheck};
+ghost use Rattle.checks.specs.Refusal.{_then_, Passed};
+ghost use Rattle.checks.specs.Check.{TimesCheck};
 ghost use Rattle.claim.specs.Claim.{PricePromise};
 ghost use Rattle.claim.specs.Choice.{ChoicePromise, PartPromise};
-ghost use Rattle.dayfile.specs.Writer.{Written};
+ghost use Rattle.dayfile.specs.Writer.{WritePromise};
 ghost use Rattle.ledger.specs.Promise.{LedgerPromise, SlotPromise};
-ghost use Rattle.rows.specs.Rows.{releases-in, deadlines-in, windows-in, Placed};
-ghost use Rattle.chaskuri.specs.Plans.{PlannedColumns};
+ghost use Rattle.planner.specs.Promise.{PlanPromise};
+ghost use Rattle.rows.specs.Rows.{releases-in, deadlines-in, windows-in, RowsFit};
 ghost use Rattle.chaskuri.specs.Slot.{SlotNumbered};
-ghost use Rattle.chaskuri.specs.ByValue.{MovesRows, ReadsRows};
+ghost use Rattle.chaskuri.specs.steps.ByValue.{MovedByValuePromise, ReadByValuePromise};
 
 // The answer of moving, and the rows to put back; none where it refuses.
-pub struct MovedRows {
+pub struct MovedByValue {
     pub answer: Answer,
     pub rows: Rows,
 }
 
 // What the reader gives, and the rows to put back.
-pub struct ReadRows {
+pub struct ReadByValue {
     pub reading: Reading,
     pub rows: Rows,
 }
 
 pub(crate) fn check(slots: u16, rows: Rows) -> Answer
-    requires { ⌜ Placed rows ⌝ }
+    requires { ⌜ RowsFit rows ⌝ }
     ensures { λ a. ⌜ (TimesCheck slots (windows-in rows) then Passed) a ⌝ }
 {
     let count = rows.count;
     let releases = rows.releases;
     let deadlines = rows.deadlines;
-    day::check_times(slots, &releases[..count], &deadlines[..count])
+    checks::check_times(slots, &releases[..count], &deadlines[..count])
 }
 
 pub(crate) fn plan(day: Day, rows: Rows, starts: &mut [u16], table: &mut [u16]) -> Answer
-    requires { ⌜ Placed rows ⌝ }
-    ensures { λ a. ⌜ PlannedColumns day (releases-in rows) (deadlines-in rows) (now (starts .entry)) (now (table .entry)) a (now (starts .exit)) (now (table .exit)) ⌝ }
+    requires { ⌜ RowsFit rows ⌝ }
+    ensures { λ a. ⌜ PlanPromise day (windows-in rows) (now (starts .entry)) (now (table .entry)) a (now (starts .exit)) (now (table .exit)) ⌝ }
 {
     let count = rows.count;
     let releases = rows.releases;
@@ -54,7 +54,7 @@ pub(crate) fn plan(day: Day, rows: Rows, starts: &mut [u16], table: &mut [u16]) 
 }
 
 pub(crate) fn price(day: Day, rows: Rows, starts: &[u16]) -> Answer
-    requires { ⌜ Placed rows ⌝ }
+    requires { ⌜ RowsFit rows ⌝ }
     ensures { λ a. ⌜ PricePromise day (windows-in rows) (now (starts .entry)) a ⌝ }
 {
     let count = rows.count;
@@ -64,7 +64,7 @@ pub(crate) fn price(day: Day, rows: Rows, starts: &[u16]) -> Answer
 }
 
 pub(crate) fn which(day: Day, rows: Rows, own: &[u16], server: &[u16]) -> Answer
-    requires { ⌜ Placed rows ⌝ }
+    requires { ⌜ RowsFit rows ⌝ }
     ensures { λ a. ⌜ ChoicePromise day (windows-in rows) (now (own .entry)) (now (server .entry)) a ⌝ }
 {
     let count = rows.count;
@@ -74,7 +74,7 @@ pub(crate) fn which(day: Day, rows: Rows, own: &[u16], server: &[u16]) -> Answer
 }
 
 pub(crate) fn choose<'a>(day: Day, rows: Rows, own: &'a [u16], server: &'a [u16]) -> &'a [u16]
-    requires { ⌜ Placed rows ⌝ }
+    requires { ⌜ RowsFit rows ⌝ }
     ensures { λ part. ⌜ PartPromise day (windows-in rows) (own .entry) (server .entry) part ⌝ }
 {
     let count = rows.count;
@@ -84,7 +84,7 @@ pub(crate) fn choose<'a>(day: Day, rows: Rows, own: &'a [u16], server: &'a [u16]
 }
 
 pub(crate) fn ledger(day: Day, rows: Rows, starts: &[u16]) -> LedgerAnswer
-    requires { ⌜ Placed rows ⌝ }
+    requires { ⌜ RowsFit rows ⌝ }
     ensures { λ answered. ⌜ LedgerPromise day (windows-in rows) (now (starts .entry)) answered ⌝ }
 {
     let count = rows.count;
@@ -94,7 +94,7 @@ pub(crate) fn ledger(day: Day, rows: Rows, starts: &[u16]) -> LedgerAnswer
 }
 
 pub(crate) fn slot(day: Day, rows: Rows, starts: &[u16], asked: u16) -> SlotAnswer
-    requires { ⌜ Placed rows ⌝ }
+    requires { ⌜ RowsFit rows ⌝ }
     ensures { λ shown. ⌜ SlotPromise day (windows-in rows) (now (starts .entry)) asked shown ⌝ }
 {
     let count = rows.count;
@@ -104,15 +104,15 @@ pub(crate) fn slot(day: Day, rows: Rows, starts: &[u16], asked: u16) -> SlotAnsw
 }
 
 pub(crate) fn slot_numbers(day: Day, rows: Rows, starts: &[u16], asked: u16) -> SlotNumbers
-    requires { ⌜ Placed rows ⌝ }
+    requires { ⌜ RowsFit rows ⌝ }
     ensures { λ numbers. ⌜ SlotNumbered day (windows-in rows) (now (starts .entry)) asked numbers ⌝ }
 {
     of_slot(slot(day, rows, starts, asked))
 }
 
-pub(crate) fn move_list(slots: u16, rows: Rows, by: i16) -> MovedRows
-    requires { ⌜ Placed rows ⌝ }
-    ensures { λ m. ⌜ MovesRows slots by rows m ⌝ }
+pub(crate) fn move_list(slots: u16, rows: Rows, by: i16) -> MovedByValue
+    requires { ⌜ RowsFit rows ⌝ }
+    ensures { λ m. ⌜ MovedByValuePromise slots by rows m ⌝ }
 {
     let count = rows.count;
     let mut releases = rows.releases;
@@ -124,21 +124,21 @@ pub(crate) fn move_list(slots: u16, rows: Rows, by: i16) -> MovedRows
             releases,
             deadlines,
         };
-        return MovedRows { answer, rows: none };
+        return MovedByValue { answer, rows: none };
     }
     let moved = Rows {
         count,
         releases,
         deadlines,
     };
-    MovedRows {
+    MovedByValue {
         answer,
         rows: moved,
     }
 }
 
-pub(crate) fn read(file: &[u8], room: usize) -> ReadRows
-    ensures { λ r. ⌜ ReadsRows (now (file .entry)) room r ⌝ }
+pub(crate) fn read(file: &[u8], room: usize) -> ReadByValue
+    ensures { λ r. ⌜ ReadByValuePromise (now (file .entry)) room r ⌝ }
 {
     let mut releases = [0u16; 41];
     let mut deadlines = [0u16; 41];
@@ -150,12 +150,12 @@ pub(crate) fn read(file: &[u8], room: usize) -> ReadRows
         releases,
         deadlines,
     };
-    ReadRows { reading, rows }
+    ReadByValue { reading, rows }
 }
 
 pub(crate) fn write(day: Day, rows: Rows, notes: usize, file: &mut [u8]) -> Answer
-    requires { ⌜ Placed rows ⌝ }
-    ensures { λ a. ⌜ Written notes day (releases-in rows) (deadlines-in rows) (now (file .entry)) a (now (file .exit)) ⌝ }
+    requires { ⌜ RowsFit rows ⌝ }
+    ensures { λ a. ⌜ WritePromise notes day (releases-in rows) (deadlines-in rows) (now (file .entry)) a (now (file .exit)) ⌝ }
 {
     let count = rows.count;
     let releases = rows.releases;

@@ -3,21 +3,21 @@ mod by_value;
 pub mod numbers;
 
 use crate::numbers::SlotNumbers;
-use day::Answer;
+use checks::Answer;
 use day::Day;
 use day::Job;
 use dayfile::Reading;
 use ledger::LedgerAnswer;
 use ledger::SlotAnswer;
-ghost use Rattle.day.specs.Refusal.{_then_, Passed};
-ghost use Rattle.day.specs.Check.{TimesCheck};
+ghost use Rattle.checks.specs.Refusal.{_then_, Passed};
+ghost use Rattle.checks.specs.Check.{TimesCheck};
 ghost use Rattle.claim.specs.Claim.{PricePromise};
 ghost use Rattle.claim.specs.Choice.{ChoicePromise, PartPromise};
-ghost use Rattle.dayfile.specs.Reader.{Read};
-ghost use Rattle.dayfile.specs.Writer.{Written};
+ghost use Rattle.dayfile.specs.Reader.{ReadPromise};
+ghost use Rattle.dayfile.specs.Writer.{WritePromise};
 ghost use Rattle.ledger.specs.Promise.{LedgerPromise, SlotPromise};
+ghost use Rattle.planner.specs.Promise.{PlanPromise};
 ghost use Rattle.moving.specs.Moving.{MovePromise};
-ghost use Rattle.chaskuri.specs.Plans.{PlannedColumns};
 ghost use Rattle.chaskuri.specs.Slot.{SlotNumbered};
 ghost use Rattle.rows.specs.Columns.{releases, deadlines, windows-of};
 
@@ -38,7 +38,7 @@ pub extern "C" fn chaskuri_plan(
     starts: &mut [u16],
     table: &mut [u16],
 ) -> Answer
-    ensures { λ a. ⌜ PlannedColumns day (releases (now (jobs .entry))) (deadlines (now (jobs .entry))) (now (starts .entry)) (now (table .entry)) a (now (starts .exit)) (now (table .exit)) ⌝ }
+    ensures { λ a. ⌜ PlanPromise day (windows-of (now (jobs .entry))) (now (starts .entry)) (now (table .entry)) a (now (starts .exit)) (now (table .exit)) ⌝ }
 {
     by_value::plan(day, rows::copy_out(jobs, 0), starts, table)
 }
@@ -103,7 +103,7 @@ pub extern "C" fn chaskuri_move(slots: u16, jobs: &mut [Job], by: i16) -> Answer
 // Reads the rows of a day file into the first records of the lent list. Where it refuses, the list is not touched.
 #[no_mangle]
 pub extern "C" fn chaskuri_read(file: &[u8], jobs: &mut [Job]) -> Reading
-    ensures { λ r. ⌜ Read (now (file .entry)) (releases (now (jobs .entry))) (deadlines (now (jobs .entry))) r (releases (now (jobs .exit))) (deadlines (now (jobs .exit))) ⌝ }
+    ensures { λ r. ⌜ ReadPromise (now (file .entry)) (releases (now (jobs .entry))) (deadlines (now (jobs .entry))) r (releases (now (jobs .exit))) (deadlines (now (jobs .exit))) ⌝ }
 {
     let read = by_value::read(file, jobs.len());
     rows::put_back(jobs, read.rows);
@@ -113,7 +113,7 @@ pub extern "C" fn chaskuri_read(file: &[u8], jobs: &mut [Job]) -> Reading
 // Writes the list and a trailer after the first `notes` bytes of `file`. Where it refuses, no byte is touched.
 #[no_mangle]
 pub extern "C" fn chaskuri_write(day: Day, jobs: &[Job], notes: usize, file: &mut [u8]) -> Answer
-    ensures { λ a. ⌜ Written notes day (releases (now (jobs .entry))) (deadlines (now (jobs .entry))) (now (file .entry)) a (now (file .exit)) ⌝ }
+    ensures { λ a. ⌜ WritePromise notes day (releases (now (jobs .entry))) (deadlines (now (jobs .entry))) (now (file .entry)) a (now (file .exit)) ⌝ }
 {
     by_value::write(day, rows::copy_out(jobs, 0), notes, file)
 }

@@ -1,12 +1,12 @@
 // One slot's record in numbers, for C, which takes no enum.
-use day::Answer;
+use checks::Answer;
 use ledger::Fill;
 use ledger::SlotAnswer;
 ghost use mathlib.Core.Path.{_≡_};
-ghost use Rattle.ledger.specs.Count.{column};
+ghost use Rattle.ledger.specs.Count.{counted-as};
 ghost use Rattle.chaskuri.specs.Slot.{row-in, in-numbers};
 
-// What fills the slot is named by its column of the ledger, counted from 0; `row` is the job's, counted from 1, or 0 where no job stands.
+// What fills the slot is named by the ledger's count that it belongs to, counted from 0; `row` is the job's, counted from 1, or 0 where no job stands.
 #[repr(C)]
 pub struct SlotNumbers {
     pub answer: Answer,
@@ -16,7 +16,7 @@ pub struct SlotNumbers {
 }
 
 fn filling(fill: Fill) -> u16
-    ensures { λ r. ⌜ r ≡ column fill ⌝ }
+    ensures { λ r. ⌜ r ≡ counted-as fill ⌝ }
 {
     match fill {
         Fill::Before => 0,

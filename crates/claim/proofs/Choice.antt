@@ -3,14 +3,14 @@ use Prim.Native.Nat.{ℕ, _≤_, _<_}
 use mathlib.Core.Path.{_≡_, ap}
 use mathlib.Core.List.{List}
 use native.Mathlib.Omega.{arith}
-use Rattle.day.specs.declared.Answer.{Answer}
+use Rattle.checks.specs.declared.Answer.{Answer}
 use Rattle.day.specs.declared.Day.{Day}
 use Rattle.day.specs.Windows.{Windows}
-use Rattle.day.specs.Answer.{says, done}
-use Rattle.day.specs.Refusal.{_then_, stops, goes-on}
-use Rattle.day.proofs.Refusal.{IsCheck, refuses-is-check, then-done}
+use Rattle.checks.specs.Answer.{says, done}
+use Rattle.checks.specs.Refusal.{_then_, stops, goes-on}
+use Rattle.checks.proofs.Refusal.{IsCheck, refuses-is-check, then-done}
 use Rattle.day.proofs.Cases.{give, on-eq}
-use Rattle.claim.specs.Claim.{Fit, plan-cost, PricedStarts}
+use Rattle.claim.specs.Claim.{Fit, plan-cost}
 use Rattle.claim.specs.Choice.{
   own-plan,
   server-plan,
@@ -20,11 +20,9 @@ use Rattle.claim.specs.Choice.{
   NamesWinner,
   NeitherCheck,
   Chosen,
-  Compared,
-  keeps-own,
-  takes-server,
-  neither,
 }
+use Rattle.claim.specs.steps.Starts.{PricedStarts}
+use Rattle.claim.specs.steps.Compared.{Compared, keeps-own, takes-server, neither}
 use Rattle.claim.proofs.Claim.{priced-fit, priced-unfit}
 
 pub neither-is-check : (w : Windows) (own server : List ℕ) → IsCheck (NeitherCheck w own server)

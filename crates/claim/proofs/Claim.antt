@@ -5,18 +5,19 @@ use mathlib.Core.List.{List}
 use mathlib.Core.Logic.{inl, inr, ⊎-elim}
 use native.Mathlib.Omega.{arith}
 use lib.ListN.{length}
-use Rattle.day.specs.declared.Answer.{Answer}
+use Rattle.checks.specs.declared.Answer.{Answer}
 use Rattle.day.specs.declared.Day.{Day}
 use Rattle.day.specs.Windows.{Windows, at}
 use Rattle.day.specs.Plan.{MayStart}
-use Rattle.day.specs.Answer.{done, few-starts, outside-window, same-start}
-use Rattle.day.specs.Refusal.{_then_, goes-on, Passed}
-use Rattle.day.specs.Check.{most-slots, GoodRows, Accepted, ListCheck}
+use Rattle.checks.specs.Answer.{done, few-starts, outside-window, same-start}
+use Rattle.checks.specs.Refusal.{_then_, goes-on, Passed}
+use Rattle.checks.specs.Check.{most-slots, GoodRows, Accepted, ListCheck}
 use Rattle.day.proofs.Cases.{on-le, on-eq}
-use Rattle.day.proofs.Refusal.{IsCheck, refuses-is-check, refuses-row-is-check, refuses-pair-is-check, code-of, then-is-check, then-done, then-clear, then-next, passed-clear, clear-first, clear-next, no-fault, no-row-at-fault, no-pair-at-fault}
-use Rattle.day.proofs.Check.{list-is-check, clear-accepted}
-use Rattle.day.proofs.Decided.{Known, Decided, above-known, then-decided, refuses-decided, refuses-row-decided, refuses-pair-decided}
-use Rattle.claim.specs.Claim.{Fit, Outside, Together, LengthCheck, WindowsCheck, ApartCheck, StartsCheck, ClaimCheck, plan-cost, PricedStarts}
+use Rattle.checks.proofs.Refusal.{IsCheck, refuses-is-check, refuses-row-is-check, refuses-pair-is-check, code-of, then-is-check, then-done, then-clear, then-next, passed-clear, clear-first, clear-next, no-fault, no-row-at-fault, no-pair-at-fault}
+use Rattle.checks.proofs.Check.{list-is-check, clear-accepted}
+use Rattle.checks.proofs.Decided.{Known, Decided, above-known, then-decided, refuses-decided, refuses-row-decided, refuses-pair-decided}
+use Rattle.claim.specs.Claim.{Fit, OutsideWindow, Together, LengthCheck, WindowsCheck, ApartCheck, StartsCheck, ClaimCheck, plan-cost}
+use Rattle.claim.specs.steps.Starts.{PricedStarts}
 use Rattle.claim.specs.declared.Claimed.{Claimed}
 use Rattle.claim.specs.Rows.{Judged}
 use Rattle.claim.proofs.Rows.{Cut, rows-cut}
@@ -43,7 +44,7 @@ may-start-known w i t =
     (λ h. on-le (t + 1) (w .deadline i) (λ l. inl (h, l)) (λ l. inr (λ m. omega (arith, m .1))))
     (λ h. inr (λ m. omega (arith, m .0)))
 
-outside-known : (w : Windows) (starts : List ℕ) (i : ℕ) → Known (Outside w starts i)
+outside-known : (w : Windows) (starts : List ℕ) (i : ℕ) → Known (OutsideWindow w starts i)
 outside-known w starts i = ⊎-elim (λ m. inr (λ out. out m)) (λ out. inl out) (may-start-known w i (at starts i))
 
 together-known : (starts : List ℕ) (i j : ℕ) → Known (Together starts i j)

@@ -3,5 +3,5 @@ pub mod Claim
 pub mod Choice
 pub mod Pair
 pub mod Rows
-pub mod Walk
-pub mod Promise
+pub mod Paying
+pub mod Unique

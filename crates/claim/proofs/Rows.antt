@@ -11,7 +11,7 @@ use lib.Seq.{getD-set-same, getD-set-other, getD-take, length-take-le}
 use borrow.Author.Tests.{eq-eqb, ne-eqb}
 use Rattle.day.specs.Windows.{at}
 use Rattle.day.specs.Plan.{Plan, taken}
-use Rattle.day.specs.Check.{most-slots}
+use Rattle.checks.specs.Check.{most-slots}
 use Rattle.day.proofs.Cases.{on-eq, on-le}
 use Rattle.claim.specs.Rows.{row-at, RowsBySlot, NextJob, holds-job}
 

@@ -4,12 +4,12 @@ use mathlib.Core.Path.{_≡_}
 use mathlib.Core.List.{List}
 use lib.ListN.{take}
 use denote.Ref.{RefT, now}
-use Rattle.day.specs.declared.Answer.{Answer}
+use Rattle.checks.specs.declared.Answer.{Answer}
 use Rattle.day.specs.declared.Day.{Day}
 use Rattle.day.specs.Windows.{Windows}
-use Rattle.day.specs.Answer.{says, done, neither-proper}
-use Rattle.day.specs.Refusal.{_then_, Refuses}
-use Rattle.day.specs.Check.{ListCheck}
+use Rattle.checks.specs.Answer.{says, done, neither-proper}
+use Rattle.checks.specs.Refusal.{_then_, Refuses}
+use Rattle.checks.specs.Check.{ListCheck}
 use Rattle.claim.specs.Claim.{Fit, plan-cost}
 
 -- the plans as the companion numbers them
@@ -40,13 +40,6 @@ Chosen Check day w own server = Check then NeitherCheck w own server then NamesW
 -- what `which` promises: codes 1 to 4 for the list
 abbrev pub ChoicePromise : Day → Windows → List ℕ → List ℕ → Answer → Type 0
 ChoicePromise day w = Chosen (ListCheck day w) day w
-
--- the companion's answer, from the answers of pricing the two plans
-pub data Compared (own server a : Answer) : Type 0 where
-  keeps-own : own .code ≡ done → (server .code ≡ done → own .first ≤ server .first) → a ≡ says done own-plan 0 → Compared own server a
-  takes-server : server .code ≡ done → (own .code ≡ done → server .first < own .first) → a ≡ says done server-plan 0
-      → Compared own server a
-  neither : (own .code ≡ done → ⊥) → (server .code ≡ done → ⊥) → a ≡ says neither-proper 0 0 → Compared own server a
 
 -- a part that begins where a lent plan begins and holds its first n starts
 pub record StartOf (plan : RefT (List ℕ)) (n : ℕ) (part : RefT (List ℕ)) : Type 0 where

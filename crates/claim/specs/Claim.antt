@@ -3,14 +3,14 @@ use Prim.Native.Nat.{ℕ, _≤_, _<_}
 use mathlib.Core.Path.{_≡_}
 use mathlib.Core.List.{List}
 use lib.ListN.{length}
-use Rattle.day.specs.declared.Answer.{Answer}
+use Rattle.checks.specs.declared.Answer.{Answer}
 use Rattle.day.specs.declared.Day.{Day}
 use Rattle.day.specs.Windows.{Windows, at}
 use Rattle.day.specs.Plan.{MayStart, Proper}
 use Rattle.day.specs.Gap.{cost}
-use Rattle.day.specs.Answer.{says, done, few-starts, outside-window, same-start}
-use Rattle.day.specs.Refusal.{_then_, Refuses, RefusesRow, RefusesPair}
-use Rattle.day.specs.Check.{ListCheck}
+use Rattle.checks.specs.Answer.{says, done, few-starts, outside-window, same-start}
+use Rattle.checks.specs.Refusal.{_then_, Refuses, RefusesRow, RefusesPair}
+use Rattle.checks.specs.Check.{ListCheck}
 
 -- a claimed plan that is proper, with a start for each job
 pub record Fit (w : Windows) (starts : List ℕ) : Type 0 where
@@ -22,11 +22,11 @@ abbrev pub LengthCheck : Windows → List ℕ → Answer → Type 0
 LengthCheck w starts = Refuses few-starts (length starts < w .count)
 
 -- the claimed start of a row is outside its window
-abbrev pub Outside : Windows → List ℕ → ℕ → Type 0
-Outside w starts i = MayStart w i (at starts i) → ⊥
+abbrev pub OutsideWindow : Windows → List ℕ → ℕ → Type 0
+OutsideWindow w starts i = MayStart w i (at starts i) → ⊥
 
 abbrev pub WindowsCheck : Windows → List ℕ → Answer → Type 0
-WindowsCheck w starts = RefusesRow outside-window (w .count) (Outside w starts)
+WindowsCheck w starts = RefusesRow outside-window (w .count) (OutsideWindow w starts)
 
 -- two rows are claimed to start together
 abbrev pub Together : List ℕ → ℕ → ℕ → Type 0
@@ -50,10 +50,6 @@ plan-cost day w starts = cost day (w .count) (at starts)
 -- the answer that says so
 abbrev pub Costs : Day → Windows → List ℕ → Answer → Type 0
 Costs day w starts a = a ≡ says done (plan-cost day w starts) 0
-
--- what pricing the starts answers for a list that is not refused
-abbrev pub PricedStarts : Day → Windows → List ℕ → Answer → Type 0
-PricedStarts day w starts = StartsCheck w starts then Costs day w starts
 
 -- what pricing a claimed plan answers, for any check of the list
 abbrev pub Priced : (Answer → Type 0) → Day → Windows → List ℕ → Answer → Type 0

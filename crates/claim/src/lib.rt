@@ -4,14 +4,16 @@ pub mod slots;
 
 ghost use mathlib.Core.Path.{_≡_};
 ghost use Rattle.day.specs.Windows.{windows};
-ghost use Rattle.day.specs.Answer.{says, done};
-ghost use Rattle.day.specs.Check.{most-jobs, most-slots, ListCheck, GoodRows, Accepted};
-ghost use Rattle.claim.specs.Claim.{PricedStarts, PricePromise};
-ghost use Rattle.claim.specs.Rows.{Placed, Judged};
-ghost use Rattle.claim.specs.Choice.{Compared, ChoicePromise, PartPromise};
-use day::Answer;
+ghost use Rattle.checks.specs.Answer.{says, done};
+ghost use Rattle.checks.specs.Check.{most-jobs, most-slots, ListCheck, GoodRows, Accepted};
+ghost use Rattle.claim.specs.Claim.{PricePromise};
+ghost use Rattle.claim.specs.Rows.{Judged};
+ghost use Rattle.claim.specs.Choice.{ChoicePromise, PartPromise};
+ghost use Rattle.claim.specs.steps.Starts.{StartsJudged, PricedStarts};
+ghost use Rattle.claim.specs.steps.Compared.{Compared};
+use checks::Answer;
+use checks::code;
 use day::Day;
-use day::code;
 
 // The two plans of a choice, as an answer numbers them.
 pub const OWN: u16 = 1;
@@ -25,9 +27,9 @@ pub struct Claimed {
 }
 
 // Judges the starts for a list that has passed codes 1 to 4, and puts the rows in their slots.
-fn place(releases: &[u16], deadlines: &[u16], starts: &[u16]) -> Claimed
+fn judge_starts(releases: &[u16], deadlines: &[u16], starts: &[u16]) -> Claimed
     requires { ⌜ GoodRows most-jobs most-slots (windows (now releases) (now deadlines)) ⌝ }
-    ensures { λ c. ⌜ Placed (windows (now (releases .entry)) (now (deadlines .entry))) (now (starts .entry)) c ⌝ }
+    ensures { λ c. ⌜ StartsJudged (windows (now (releases .entry)) (now (deadlines .entry))) (now (starts .entry)) c ⌝ }
 {
     let answer = check::check_starts(releases, deadlines, starts);
     if answer.code != code::DONE {
@@ -42,12 +44,12 @@ fn place(releases: &[u16], deadlines: &[u16], starts: &[u16]) -> Claimed
 pub fn judge(day: Day, releases: &[u16], deadlines: &[u16], starts: &[u16]) -> Claimed
     ensures { λ c. ⌜ Judged (ListCheck day (windows (now (releases .entry)) (now (deadlines .entry)))) (windows (now (releases .entry)) (now (deadlines .entry))) (now (starts .entry)) c ⌝ }
 {
-    let answer = day::check_list(day, releases, deadlines);
+    let answer = checks::check_list(day, releases, deadlines);
     if answer.code != code::DONE {
         let rows = [0u16; 96];
         return Claimed { answer, rows };
     }
-    place(releases, deadlines, starts)
+    judge_starts(releases, deadlines, starts)
 }
 
 // The answer 0 with its first number.
@@ -66,7 +68,7 @@ fn price_starts(day: Day, releases: &[u16], deadlines: &[u16], starts: &[u16]) -
     requires { ⌜ Accepted day (windows (now releases) (now deadlines)) ⌝ }
     ensures { λ a. ⌜ PricedStarts day (windows (now (releases .entry)) (now (deadlines .entry))) (now (starts .entry)) a ⌝ }
 {
-    let claimed = place(releases, deadlines, starts);
+    let claimed = judge_starts(releases, deadlines, starts);
     let answer = claimed.answer;
     if answer.code != code::DONE {
         return answer;
@@ -80,7 +82,7 @@ fn price_starts(day: Day, releases: &[u16], deadlines: &[u16], starts: &[u16]) -
 pub fn price(day: Day, releases: &[u16], deadlines: &[u16], starts: &[u16]) -> Answer
     ensures { λ a. ⌜ PricePromise day (windows (now (releases .entry)) (now (deadlines .entry))) (now (starts .entry)) a ⌝ }
 {
-    let listed = day::check_list(day, releases, deadlines);
+    let listed = checks::check_list(day, releases, deadlines);
     if listed.code != code::DONE {
         return listed;
     }
@@ -110,7 +112,7 @@ fn cheaper(own: Answer, server: Answer) -> Answer
 pub fn which(day: Day, releases: &[u16], deadlines: &[u16], own: &[u16], server: &[u16]) -> Answer
     ensures { λ a. ⌜ ChoicePromise day (windows (now (releases .entry)) (now (deadlines .entry))) (now (own .entry)) (now (server .entry)) a ⌝ }
 {
-    let listed = day::check_list(day, releases, deadlines);
+    let listed = checks::check_list(day, releases, deadlines);
     if listed.code != code::DONE {
         return listed;
     }

@@ -3,8 +3,9 @@ ghost use Prim.Native.Nat.{ℕ, _<_, _≤_};
 ghost use mathlib.Core.Path.{_≡_};
 ghost use lib.ListN.{length};
 ghost use Rattle.day.specs.Windows.{at};
-ghost use Rattle.day.specs.Check.{most-jobs, most-slots};
-ghost use Rattle.claim.specs.Rows.{RowsBySlot, NextJob, rows-cost};
+ghost use Rattle.checks.specs.Check.{most-jobs, most-slots};
+ghost use Rattle.claim.specs.Rows.{RowsBySlot, NextJob};
+ghost use Rattle.claim.specs.steps.Starts.{rows-cost};
 use day::Power;
 
 // The row, counted from 1, that starts at each slot; 0 where none does.

@@ -9,19 +9,19 @@ use Rattle.day.specs.Windows.{Windows}
 use Rattle.day.specs.Plan.{Plan, Proper, NoPlan}
 use Rattle.day.specs.Gap.{cost}
 use Rattle.day.specs.Best.{Best}
-use Rattle.day.specs.Change.{beside, after, joined, joining, Apart}
+use Rattle.day.specs.Joined.{beside, following, joined, joining, ListsApart}
 use Rattle.day.proofs.Cases.{give}
 use Rattle.day.proofs.Plan.{same-rows-refl, proper-cong}
 use Rattle.day.proofs.Gap.{price-long, cost-agree}
 use Rattle.day.proofs.Best.{best-cong}
-use Rattle.day.proofs.Joined.{beside-first, beside-after, first-proper, second-proper, joined-proper, joined-as-late}
+use Rattle.day.proofs.Joined.{beside-first, beside-following, first-proper, second-proper, joined-proper, joined-as-late}
 use Rattle.day.proofs.JoinedCost.{joined-cost}
 
 -- where the first list ends by g and the second begins at g + L or later, they are apart
 pub apart-by-wake : (power : Power) (g : ℕ) (w v : Windows)
     → ((i : ℕ) → i < w .count → w .deadline i ≤ g)
     → ((k : ℕ) → k < v .count → g + power .wake ≤ v .release k)
-    → Apart power g (g + power .wake) w v
+    → ListsApart power g (g + power .wake) w v
 apart-by-wake power g w v first second =
     record { order = omega arith; first = first; second = second; between = λ x l. price-long power x (omega arith) }
 
@@ -32,14 +32,14 @@ module _ (w v : Windows) where
   first-no-plan none r P = none r (first-proper w v r P)
 
   pub second-no-plan : NoPlan v → NoPlan (joined w v)
-  second-no-plan none r P = none (after (w .count) r) (second-proper w v r P)
+  second-no-plan none r P = none (following (w .count) r) (second-proper w v r P)
 
-module _ {power : Power} {g h : ℕ} {w v : Windows} (apart : Apart power g h w v) where
+module _ {power : Power} {g h : ℕ} {w v : Windows} (apart : ListsApart power g h w v) where
   pub beside-proper : (p q : Plan) → Proper w p → Proper v q → Proper (joined w v) (beside (w .count) p q)
   beside-proper p q P Q =
       joined-proper apart (beside (w .count) p q)
       (proper-cong w w p (beside (w .count) p q) (same-rows-refl w) (λ i l. sym (beside-first (w .count) p q i l)) P)
-      (proper-cong v v q (after (w .count) (beside (w .count) p q)) (same-rows-refl v) (λ k l. sym (beside-after (w .count) p q k)) Q)
+      (proper-cong v v q (following (w .count) (beside (w .count) p q)) (same-rows-refl v) (λ k l. sym (beside-following (w .count) p q k)) Q)
 
   -- two lists that join to none: where the first has a plan, the second has none
   pub rest-no-plan : NoPlan (joined w v) → (p : Plan) → Proper w p → NoPlan v
@@ -51,7 +51,7 @@ pub record BesideBest (day : Day) (w v : Windows) (p q : Plan) : Type 0 where
   pub costs : cost day (w .count + v .count) (beside (w .count) p q)
       ≡ cost day (w .count) p + cost day (v .count) q + joining (day .power) w v
 
-module _ {day : Day} {g h : ℕ} {w v : Windows} (apart : Apart (day .power) g h w v)
+module _ {day : Day} {g h : ℕ} {w v : Windows} (apart : ListsApart (day .power) g h w v)
     (within : (k : ℕ) → k < v .count → v .deadline k ≤ day .slots) where
   pub beside-cost : (p q : Plan) → Proper w p → Proper v q
       → cost day (w .count + v .count) (beside (w .count) p q)
@@ -61,10 +61,10 @@ module _ {day : Day} {g h : ℕ} {w v : Windows} (apart : Apart (day .power) g h
         arith,
         joined-cost apart within (beside (w .count) p q) (beside-proper apart p q P Q),
         cost-agree day (w .count) (beside (w .count) p q) p (beside-first (w .count) p q),
-        cost-agree day (v .count) (after (w .count) (beside (w .count) p q)) q (λ k l. beside-after (w .count) p q k),
+        cost-agree day (v .count) (following (w .count) (beside (w .count) p q)) q (λ k l. beside-following (w .count) p q k),
       )
 
-  joined-best : (r : Plan) → Best day w r → Best day v (after (w .count) r) → Best day (joined w v) r
+  joined-best : (r : Plan) → Best day w r → Best day v (following (w .count) r) → Best day (joined w v) r
   joined-best r B C =
       give (joined-proper apart r (B .proper) (C .proper))
       (λ P.
@@ -77,18 +77,18 @@ module _ {day : Day} {g h : ℕ} {w v : Windows} (apart : Apart (day .power) g h
               arith,
               joined-cost apart within s S,
               B .cheapest s (first-proper w v s S),
-              C .cheapest (after (w .count) s) (second-proper w v s S),
+              C .cheapest (following (w .count) s) (second-proper w v s S),
             );
         latest = λ s S e.
             give (joined-cost apart within s S)
             (λ d.
             give (B .cheapest s (first-proper w v s S))
             (λ a.
-            give (C .cheapest (after (w .count) s) (second-proper w v s S))
+            give (C .cheapest (following (w .count) s) (second-proper w v s S))
             (λ b.
-            joined-as-late apart r s (after (w .count) r) (C .proper)
+            joined-as-late apart r s (following (w .count) r) (C .proper)
             (B .latest s (first-proper w v s S) (omega arith))
-            (C .latest (after (w .count) s) (second-proper w v s S) (omega arith)))));
+            (C .latest (following (w .count) s) (second-proper w v s S) (omega arith)))));
       }))
 
   pub beside-best : (p q : Plan) → Best day w p → Best day v q → BesideBest day w v p q
@@ -97,7 +97,7 @@ module _ {day : Day} {g h : ℕ} {w v : Windows} (apart : Apart (day .power) g h
         best =
             joined-best (beside (w .count) p q)
             (best-cong day w w p (beside (w .count) p q) (same-rows-refl w) (λ i l. sym (beside-first (w .count) p q i l)) B)
-            (best-cong day v v q (after (w .count) (beside (w .count) p q)) (same-rows-refl v)
-            (λ k l. sym (beside-after (w .count) p q k)) C);
+            (best-cong day v v q (following (w .count) (beside (w .count) p q)) (same-rows-refl v)
+            (λ k l. sym (beside-following (w .count) p q k)) C);
         costs = beside-cost p q (B .proper) (C .proper);
       }

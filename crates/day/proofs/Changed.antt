@@ -8,7 +8,7 @@ use native.Mathlib.Omega.{arith}
 use lib.ListN.{length, set, length-set}
 use lib.Seq.{getD-set-same, getD-set-other, ext-getD}
 use Rattle.day.specs.Windows.{at}
-use Rattle.day.specs.Changed.{Changed, itself, Below, FirstFilled}
+use Rattle.day.specs.Changed.{Changed, Below, FirstFilled}
 use Rattle.day.proofs.Cases.{on-eq, on-le}
 
 module _ {Index : Type 0} {place : Index → ℕ} where

@@ -8,9 +8,10 @@ use borrow.Author.Tests.{eq-eqb, ne-eqb}
 use Rattle.day.specs.declared.Day.{Day}
 use Rattle.day.specs.Plan.{Plan, taken}
 use Rattle.day.specs.Gap.{price, gaps-since, gaps, total, cost}
-use Rattle.day.specs.Far.{far-price, from-one}
+use Rattle.day.specs.Far.{far-price}
 use Rattle.day.proofs.Cases.{on, on-eq, not-both, or-right}
-use Rattle.day.proofs.Span.{walk, span, walk-zero, walk-full, walk-empty, span-empty}
+use Rattle.day.specs.Span.{walk, span}
+use Rattle.day.proofs.Span.{walk-zero, walk-full, walk-empty, span-empty}
 use Rattle.day.proofs.Plan.{taken-intro, taken-false}
 use Rattle.day.proofs.Gap.{total-none, total-ended, gaps-since-none, gaps-since-full, gaps-since-empty, gaps-full, gaps-empty}
 
@@ -26,6 +27,11 @@ pub far-price-inside : (day : Day) (s e : ℕ) → (s ≡ 0 → ⊥) → (e ≡ 
     → far-price day s e ≡ price (day .power) (e - s)
 unfolding far-price
 far-price-inside day s e a b = rw (ne-eqb s 0 a, ne-eqb e (day .slots + 2) b)
+
+-- the full slots, counted from 1
+unfoldable pub from-one : (ℕ → Bool) → ℕ → Bool
+from-one full zero = false
+from-one full (suc t) = full t
 
 pub from-one-zero : (full : ℕ → Bool) → from-one full 0 ≡ false
 unfolding from-one

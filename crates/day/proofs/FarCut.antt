@@ -6,9 +6,10 @@ use mathlib.Core.Bool.{Bool, true, false}
 use native.Mathlib.Omega.{arith}
 use Rattle.day.specs.declared.Day.{Day}
 use Rattle.day.specs.Gap.{price}
-use Rattle.day.specs.Far.{far-price, from-one}
-use Rattle.day.proofs.Span.{span, span-cong, span-empty, span-split}
-use Rattle.day.proofs.Far.{from-one-zero, from-one-suc, far-price-start, far-price-end, far-price-inside}
+use Rattle.day.specs.Far.{far-price}
+use Rattle.day.specs.Span.{span}
+use Rattle.day.proofs.Span.{span-cong, span-empty, span-split}
+use Rattle.day.proofs.Far.{from-one, from-one-zero, from-one-suc, far-price-start, far-price-end, far-price-inside}
 
 -- the laws of a span, said of slots
 

@@ -1,5 +1,5 @@
 -- Laws of gaps and what they cost. Assumes nothing.
-use Prim.Native.Nat.{ℕ, zero, suc, _+_, _≤_, _<_}
+use Prim.Native.Nat.{ℕ, zero, suc, _+_, _-_, _≤_, _<_}
 use mathlib.Core.Path.{_≡_, refl, sym, _∙_, ap}
 use mathlib.Core.Bool.{Bool, true, false}
 use mathlib.Core.List.{List, [], _∷_}
@@ -138,6 +138,30 @@ pub cost-none : (day : Day) (p : Plan) → cost day 0 p ≡ 0
 unfolding cost
 cost-none day p =
     rw (gaps-no-job (taken 0 p) (day .slots) 0 (λ u. taken-false 0 p u (λ w. omega (arith, w .below)))) (total-none (price (day .power)))
+
+-- the slots before the first job leave no gap
+gaps-skip : (full : ℕ → Bool) (k t s m : ℕ) → s ≡ t + k → ((u : ℕ) → u < s → full u ≡ false) → gaps full t (k + m) ≡ gaps full s m
+gaps-skip full zero t s m e none =
+    let here : s ≡ t = omega arith in
+    let all : 0 + m ≡ m = omega arith in
+    rw (here, all)
+gaps-skip full (suc k) t s m e none =
+    let one-more : suc k + m ≡ suc (k + m) = omega arith in
+    rw one-more (gaps-empty full t (k + m) (none t (omega arith)) ∙ gaps-skip full k (suc t) s m (omega arith) none)
+
+from-full : (full : ℕ → Bool) (s m : ℕ) → (0 < m → full s ≡ true) → gaps-since full 0 s m ≡ gaps full s m
+unfolding ended
+from-full full s zero job = gaps-since-none full 0 s ∙ sym (gaps-none full s)
+from-full full s (suc m) job = gaps-since-full full 0 s m (job (omega arith)) ∙ sym (gaps-full full s m (job (omega arith)))
+
+-- the walk may begin at the first job
+pub gaps-from-first : (full : ℕ → Bool) (slots s : ℕ) → s ≤ slots → ((u : ℕ) → u < s → full u ≡ false) → (s < slots → full s ≡ true)
+    → gaps full 0 slots ≡ gaps-since full 0 s (slots - s)
+gaps-from-first full slots s within none job =
+    let all : slots ≡ s + (slots - s) = omega arith in
+    ap (gaps full 0) all
+    ∙ gaps-skip full s 0 s (slots - s) (omega arith) none
+    ∙ sym (from-full full s (slots - s) (λ h. job (omega arith)))
 
 -- an empty slot after the last job is free
 

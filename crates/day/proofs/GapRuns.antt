@@ -3,22 +3,22 @@
 use Prim.Native.Nat.{ℕ, zero, suc, _+_, _-_, _≤_, _<_}
 use mathlib.Core.Path.{_≡_, refl, ap}
 use mathlib.Core.Bool.{Bool, true, false}
-use mathlib.Core.List.{List, [], _∷_}
+use mathlib.Core.List.{List, _∷_}
 use native.Mathlib.Omega.{arith}
-use Rattle.day.specs.Gap.{EmptyFrom, Gap, NoGap, Listed, none, next, ended, gaps-since, gaps}
+use Rattle.day.specs.Gap.{EmptyFrom, Gap, NoGap, Listed, no-more, next, ended, gaps-since, gaps}
 use Rattle.day.proofs.Cases.{give, on, on-eq, on-le, not-both}
 use Rattle.day.proofs.Gap.{gaps-since-none, gaps-since-full, gaps-since-empty, gaps-none, gaps-full, gaps-empty}
 
--- a gap by its neighbours: were the slot before it or after it empty, it would not be maximal
-pub record Between (full : ℕ → Bool) (slots from g : ℕ) : Type 0 where
+-- a gap by the jobs around it: were the slot before it or after it empty, it would not be maximal
+pub record JobsAround (full : ℕ → Bool) (slots from g : ℕ) : Type 0 where
   pub later : 1 ≤ from
   pub before : full (from - 1) ≡ true
   pub after : full (from + g) ≡ true
   pub within : from + g < slots
 
 module _ (full : ℕ → Bool) (slots : ℕ) where
-  pub gap-between : {from g : ℕ} → Gap full slots from g → Between full slots from g
-  gap-between {from} {g} gap =
+  pub gap-around : {from g : ℕ} → Gap full slots from g → JobsAround full slots from g
+  gap-around {from} {g} gap =
       give (gap .job-before)
       (λ b.
       give (gap .job-after)
@@ -49,8 +49,8 @@ module _ (full : ℕ → Bool) (slots : ℕ) where
         within = on-eq (a .0) (from + g) (λ z. omega (arith, a .2)) (λ z. omega (arith, a .1, a .2));
       }))
 
-  pub between-gap : {from g : ℕ} → 1 ≤ g → EmptyFrom full from (from + g) → Between full slots from g → Gap full slots from g
-  between-gap {from} {g} some empty next-to =
+  pub around-gap : {from g : ℕ} → 1 ≤ g → EmptyFrom full from (from + g) → JobsAround full slots from g → Gap full slots from g
+  around-gap {from} {g} some empty next-to =
       record {
         some = omega arith;
         empty = empty;
@@ -65,8 +65,8 @@ module _ (full : ℕ → Bool) (slots : ℕ) where
       }
 
   listed-earlier : {u : ℕ} {gs : List ℕ} (t : ℕ) → t ≤ u → NoGap full slots t u → Listed full slots u gs → Listed full slots t gs
-  listed-earlier {u} t l free (none f) =
-      none {t = t} (λ from g a b r. on-le u from (λ c. f from g c b r) (λ c. free from g a c r))
+  listed-earlier {u} t l free (no-more f) =
+      no-more {t = t} (λ from g a b r. on-le u from (λ c. f from g c b r) (λ c. free from g a c r))
   listed-earlier {u} t l free (next from a f r more) =
       next {t = t} from (omega arith) (λ x h b c s. on-le u x (λ d. f x h d c s) (λ d. free x h b d s)) r more
 
@@ -86,10 +86,10 @@ module _ (full : ℕ → Bool) (slots : ℕ) where
       let before : suc a - 1 ≡ a = omega arith in
       let after : suc a + suc g ≡ t = omega arith in
       next {t = suc a} {g = suc g} (suc a) (omega arith) (λ from h b c r. absurd (omega arith))
-      (between-gap (omega arith) (λ u b c. clear u (omega arith) (omega arith))
+      (around-gap (omega arith) (λ u b c. clear u (omega arith) (omega arith))
       (record { later = omega arith; before = rw before job; after = rw after end; within = omega arith }))
       (listed-earlier (suc (suc a)) (omega arith)
-      (λ from h b c r. not-both (gap-between r .before) (clear (from - 1) (omega arith) (omega arith))) more)
+      (λ from h b c r. not-both (gap-around r .before) (clear (from - 1) (omega arith) (omega arith))) more)
 
   -- g slots have been empty since the job at a
   since-listed : (m g a t : ℕ) → t + m ≡ slots → t ≡ suc a + g → full a ≡ true
@@ -97,9 +97,9 @@ module _ (full : ℕ → Bool) (slots : ℕ) where
       → Listed full slots (suc a) (gaps-since full g t m)
   since-listed zero g a t p q job clear =
       rw (gaps-since-none full g t)
-      (none {t = suc a}
+      (no-more {t = suc a}
       (λ from h l b r.
-      give (gap-between r) (λ n. not-both (n .after) (clear (from + h) (omega arith) (omega (arith, n .within))))))
+      give (gap-around r) (λ n. not-both (n .after) (clear (from + h) (omega arith) (omega (arith, n .within))))))
   since-listed (suc m) g a t p q job clear =
       on (full t)
       (λ e.
@@ -115,13 +115,13 @@ module _ (full : ℕ → Bool) (slots : ℕ) where
   before-listed : (m t : ℕ) → t + m ≡ slots → ((u : ℕ) → u < t → full u ≡ false) → Listed full slots 0 (gaps full t m)
   before-listed zero t p clear =
       rw (gaps-none full t)
-      (none {t = 0} (λ from g l b r. give (gap-between r) (λ n. not-both (n .after) (clear (from + g) (omega (arith, n .within))))))
+      (no-more {t = 0} (λ from g l b r. give (gap-around r) (λ n. not-both (n .after) (clear (from + g) (omega (arith, n .within))))))
   before-listed (suc m) t p clear =
       on (full t)
       (λ e.
       rw (gaps-full full t m e)
       (listed-earlier 0 (omega arith)
-      (λ from g l b r. give (gap-between r) (λ n. not-both (n .before) (clear (from - 1) (omega (arith, n .later)))))
+      (λ from g l b r. give (gap-around r) (λ n. not-both (n .before) (clear (from - 1) (omega (arith, n .later)))))
       (since-listed m 0 t (suc t) (omega arith) (omega arith) e (λ u b c. absurd (omega arith)))))
       (λ e.
       rw (gaps-empty full t m e)
@@ -133,13 +133,13 @@ module _ (full : ℕ → Bool) (slots : ℕ) where
   -- a gap is as long as it is
   gap-length : (from g h : ℕ) → Gap full slots from g → Gap full slots from h → h ≤ g
   gap-length from g h r s =
-      on-le h g (λ l. l) (λ l. absurd (not-both (gap-between r .after) (s .empty (from + g) (omega arith) (omega arith))))
+      on-le h g (λ l. l) (λ l. absurd (not-both (gap-around r .after) (s .empty (from + g) (omega arith) (omega arith))))
 
   -- one list at most
   pub listed-unique : {t : ℕ} {gs hs : List ℕ} → Listed full slots t gs → Listed full slots t hs → gs ≡ hs
-  listed-unique (none f) (none k) = refl
-  listed-unique (none f) (next from l k r more) = absurd (f from _ l (omega (arith, gap-between r .within)) r)
-  listed-unique (next from l f r more) (none k) = absurd (k from _ l (omega (arith, gap-between r .within)) r)
+  listed-unique (no-more f) (no-more k) = refl
+  listed-unique (no-more f) (next from l k r more) = absurd (f from _ l (omega (arith, gap-around r .within)) r)
+  listed-unique (next from l f r more) (no-more k) = absurd (k from _ l (omega (arith, gap-around r .within)) r)
   listed-unique (next {g = g} from l f r more) (next {g = h} x b k s others) =
       on-le from x
       (λ c.

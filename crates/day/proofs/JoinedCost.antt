@@ -9,7 +9,7 @@ use Rattle.day.specs.declared.Day.{Day}
 use Rattle.day.specs.Windows.{Windows}
 use Rattle.day.specs.Plan.{Plan, Proper, taken}
 use Rattle.day.specs.Gap.{price, cost}
-use Rattle.day.specs.Change.{after, joined, joining, Apart}
+use Rattle.day.specs.Joined.{following, joined, joining, ListsApart}
 use Rattle.day.proofs.Cases.{give, on-le, or-right}
 use Rattle.day.proofs.Plan.{Taker, taken-intro, taken-false}
 use Rattle.day.proofs.Gap.{cost-same, cost-none}
@@ -17,26 +17,26 @@ use Rattle.day.proofs.Far.{cost-far}
 use Rattle.day.proofs.FarCut.{whole, whole-joined}
 use Rattle.day.proofs.Outermost.{Outermost, Earlier, Later, last-start, first-start}
 use Rattle.day.proofs.Joined.{on-row, first-proper, second-proper, first-ends, second-begins, starts-apart}
-use Rattle.day.proofs.JoinedTaken.{taken-first, taken-after}
+use Rattle.day.proofs.JoinedTaken.{taken-first, taken-following}
 
 -- the last job of the first list stands before the first job of the second
-module _ (day : Day) (n m : ℕ) (r : Plan) (last : Outermost Earlier n r) (first : Outermost Later m (after n r))
+module _ (day : Day) (n m : ℕ) (r : Plan) (last : Outermost Earlier n r) (first : Outermost Later m (following n r))
     (order : r (last .row) < r (n + first .row)) where
   not-first : (t : ℕ) → r (last .row) < t → Taker n r t → ⊥
   not-first t l w = omega (arith, last .others (w .row) (w .below))
 
-  not-second : (t : ℕ) → t < r (n + first .row) → Taker m (after n r) t → ⊥
+  not-second : (t : ℕ) → t < r (n + first .row) → Taker m (following n r) t → ⊥
   not-second t l w = omega (arith, first .others (w .row) (w .below))
 
   whole-of-parts : r (n + first .row) < day .slots
       → whole day (taken (n + m) r) + (day .power .wake + day .power .wake)
-      ≡ whole day (taken n r) + whole day (taken m (after n r)) + price (day .power) (r (n + first .row) - suc (r (last .row)))
+      ≡ whole day (taken n r) + whole day (taken m (following n r)) + price (day .power) (r (n + first .row) - suc (r (last .row)))
   whole-of-parts inside =
-      whole-joined day (taken (n + m) r) (taken n r) (taken m (after n r)) (r (last .row)) (r (n + first .row)) order inside
+      whole-joined day (taken (n + m) r) (taken n r) (taken m (following n r)) (r (last .row)) (r (n + first .row)) order inside
       (taken-intro n r (r (last .row)) (last .row) (last .below) refl)
-      (taken-intro m (after n r) (r (n + first .row)) (first .row) (first .below) refl)
-      (λ t l. (taken-first n m r t (not-second t l), taken-false m (after n r) t (not-second t l)))
-      (λ t l. (taken-after n m r t (not-first t l), taken-false n r t (not-first t l)))
+      (taken-intro m (following n r) (r (n + first .row)) (first .row) (first .below) refl)
+      (λ t l. (taken-first n m r t (not-second t l), taken-false m (following n r) t (not-second t l)))
+      (λ t l. (taken-following n m r t (not-first t l), taken-false n r t (not-first t l)))
 
 -- what joining adds
 
@@ -57,23 +57,23 @@ cost-empty : (day : Day) (n : ℕ) (p : Plan) → n ≡ 0 → cost day n p ≡ 0
 cost-empty day n p none = rw none (cost-none day p)
 
 module _ (day : Day) (n m : ℕ) (r : Plan) where
-  first-empty-cost : n ≡ 0 → cost day (n + m) r ≡ cost day n r + cost day m (after n r)
+  first-empty-cost : n ≡ 0 → cost day (n + m) r ≡ cost day n r + cost day m (following n r)
   first-empty-cost none =
       omega (
         arith,
         cost-empty day n r none,
-        cost-same day (n + m) m r (after n r) (λ t l. taken-after n m r t (λ w. omega arith)),
+        cost-same day (n + m) m r (following n r) (λ t l. taken-following n m r t (λ w. omega arith)),
       )
 
-  second-empty-cost : m ≡ 0 → cost day (n + m) r ≡ cost day n r + cost day m (after n r)
+  second-empty-cost : m ≡ 0 → cost day (n + m) r ≡ cost day n r + cost day m (following n r)
   second-empty-cost none =
       omega (
         arith,
-        cost-empty day m (after n r) none,
+        cost-empty day m (following n r) none,
         cost-same day (n + m) n r r (λ t l. taken-first n m r t (λ w. omega arith)),
       )
 
-module _ {day : Day} {g h : ℕ} {w v : Windows} (apart : Apart (day .power) g h w v)
+module _ {day : Day} {g h : ℕ} {w v : Windows} (apart : ListsApart (day .power) g h w v)
     (within : (k : ℕ) → k < v .count → v .deadline k ≤ day .slots) where
   -- with a job in the second list, the joined list stays in the day
   starts-inside : (r : Plan) → Proper (joined w v) r → 0 < v .count → (i : ℕ) → i < w .count + v .count → r i < day .slots
@@ -84,7 +84,7 @@ module _ {day : Day} {g h : ℕ} {w v : Windows} (apart : Apart (day .power) g h
       (λ j b.
       omega (
         arith,
-        starts-apart apart r (after (w .count) r) (first-proper w v r P) (second-proper w v r P) j 0 b more,
+        starts-apart apart r (following (w .count) r) (first-proper w v r P) (second-proper w v r P) j 0 b more,
         second 0 more,
       ))
       second)
@@ -97,17 +97,17 @@ module _ {day : Day} {g h : ℕ} {w v : Windows} (apart : Apart (day .power) g h
       (omega (
         arith,
         first-ends apart r (first-proper w v r P) i l,
-        second-begins apart (after (w .count) r) (second-proper w v r P) k m,
+        second-begins apart (following (w .count) r) (second-proper w v r P) k m,
       ))
 
   -- with jobs in both lists
   both-cost : (r : Plan) → Proper (joined w v) r → 0 < w .count → 0 < v .count
       → cost day (w .count + v .count) r
-      ≡ cost day (w .count) r + cost day (v .count) (after (w .count) r) + day .power .wake
+      ≡ cost day (w .count) r + cost day (v .count) (following (w .count) r) + day .power .wake
   both-cost r P some more =
       give (last-start (w .count) r some)
       (λ last.
-      give (first-start (v .count) (after (w .count) r) more)
+      give (first-start (v .count) (following (w .count) r) more)
       (λ first.
       give (starts-inside r P more)
       (λ inside.
@@ -115,9 +115,9 @@ module _ {day : Day} {g h : ℕ} {w v : Windows} (apart : Apart (day .power) g h
         arith,
         cost-far day (w .count + v .count) r (omega arith) inside,
         cost-far day (w .count) r some (λ i l. inside i (omega arith)),
-        cost-far day (v .count) (after (w .count) r) more (λ k l. inside (w .count + k) (omega arith)),
+        cost-far day (v .count) (following (w .count) r) more (λ k l. inside (w .count + k) (omega arith)),
         whole-of-parts day (w .count) (v .count) r last first
-            (starts-apart apart r (after (w .count) r) (first-proper w v r P) (second-proper w v r P)
+            (starts-apart apart r (following (w .count) r) (first-proper w v r P) (second-proper w v r P)
             (last .row) (first .row) (last .below) (first .below))
             (inside (w .count + first .row) (omega (arith, first .below))),
         price-between r P (last .row) (first .row) (last .below) (first .below),
@@ -126,7 +126,7 @@ module _ {day : Day} {g h : ℕ} {w v : Windows} (apart : Apart (day .power) g h
   -- the cost of the joined list is the sum of the costs and what joining adds
   pub joined-cost : (r : Plan) → Proper (joined w v) r
       → cost day (w .count + v .count) r
-      ≡ cost day (w .count) r + cost day (v .count) (after (w .count) r) + joining (day .power) w v
+      ≡ cost day (w .count) r + cost day (v .count) (following (w .count) r) + joining (day .power) w v
   joined-cost r P =
       on-le 1 (w .count)
       (λ some.

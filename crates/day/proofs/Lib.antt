@@ -1,22 +1,19 @@
 -- The laws of the definitions in specs/, and the theorems about best plans.
 pub mod Cases
-pub mod Refusal
-pub mod Check
-pub mod Decided
-pub mod Zero
 pub mod Changed
-pub mod FirstFilled
+pub mod Stored
 pub mod Numbering
+pub mod Unique
 pub mod Span
 pub mod Plan
 pub mod Gap
 pub mod GapRuns
+pub mod FewerGaps
 pub mod Bound
 pub mod Far
 pub mod FarCut
 pub mod Number
 pub mod Best
-pub mod Planned
 pub mod Mirrored
 pub mod Moved
 pub mod Joined

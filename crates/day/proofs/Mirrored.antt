@@ -8,13 +8,14 @@ use Rattle.day.specs.Windows.{Windows}
 use Rattle.day.specs.Plan.{Plan, Proper, NoPlan, taken}
 use Rattle.day.specs.Gap.{price, cost}
 use Rattle.day.specs.Best.{Best}
-use Rattle.day.specs.Far.{far-price, from-one}
-use Rattle.day.specs.Change.{mirrored}
+use Rattle.day.specs.Far.{far-price}
+use Rattle.day.specs.Mirrored.{mirrored}
 use Rattle.day.proofs.Cases.{give, on-eq}
-use Rattle.day.proofs.Span.{span, span-empty, span-split, span-unique}
+use Rattle.day.specs.Span.{span}
+use Rattle.day.proofs.Span.{span-empty, span-split, span-unique}
 use Rattle.day.proofs.Plan.{taken-same, taken-false}
 use Rattle.day.proofs.Gap.{cost-none}
-use Rattle.day.proofs.Far.{far-price-start, far-price-end, far-price-inside, from-one-zero, from-one-suc, cost-far}
+use Rattle.day.proofs.Far.{from-one, far-price-start, far-price-end, far-price-inside, from-one-zero, from-one-suc, cost-far}
 
 -- points s and x, and e and y, lie opposite
 far-price-mirrored : (day : Day) (s e x y : ℕ) → s + x ≡ day .slots + 2 → e + y ≡ day .slots + 2

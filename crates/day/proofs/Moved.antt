@@ -10,7 +10,7 @@ use Rattle.day.specs.Windows.{Windows}
 use Rattle.day.specs.Plan.{Plan, Proper, NoPlan}
 use Rattle.day.specs.Gap.{cost}
 use Rattle.day.specs.Best.{Best}
-use Rattle.day.specs.Change.{Shifts, Moved}
+use Rattle.day.specs.Moved.{Shifts, Moved}
 use Rattle.day.proofs.Cases.{give, on}
 use Rattle.day.proofs.Plan.{Offset, OffsetPlan, offset-turned, offset-proper, no-plan-offset}
 use Rattle.day.proofs.Gap.{longer, cost-longer, cost-agree}

@@ -1,19 +1,11 @@
--- The price of a span as if jobs stood just before it and at its end, over any price of two points. Two laws determine it: an empty
--- span costs its price, and a full slot splits a span. Assumes nothing.
+-- Two laws determine the price of a span: an empty span costs its price, and a full slot splits a span. Assumes nothing.
 use Prim.Native.Nat.{ℕ, zero, suc, _+_, _-_, _≤_, _<_}
 use mathlib.Core.Path.{_≡_, refl, sym, _∙_, ap}
-use mathlib.Core.Bool.{Bool, true, false, cond}
+use mathlib.Core.Bool.{Bool, true, false}
 use native.Mathlib.Omega.{arith}
 use mathlib.Core.Logic.{⊎-elim}
+use Rattle.day.specs.Span.{walk, span}
 use Rattle.day.proofs.Cases.{on, give, find}
-
--- over the m slots from x on, where the last job stood just before a and the next after them stands at x + m
-unfoldable pub walk : (ℕ → ℕ → ℕ) → (ℕ → Bool) → ℕ → ℕ → ℕ → ℕ
-walk price full a x zero = price a x
-walk price full a x (suc m) = cond (full x) (price a x + walk price full (suc x) (suc x) m) (walk price full a (suc x) m)
-
-unfoldable pub span : (ℕ → ℕ → ℕ) → (ℕ → Bool) → ℕ → ℕ → ℕ
-span price full s e = walk price full s s (e - s)
 
 module _ (price : ℕ → ℕ → ℕ) where
   pub walk-zero : (full : ℕ → Bool) (a x : ℕ) → walk price full a x zero ≡ price a x

@@ -26,3 +26,7 @@ Between lo hi e = (lo ≤ e) × (e < hi)
 -- new is old with each of the first n places filled by a number that is right for it
 abbrev pub FirstFilled : ℕ → (ℕ → ℕ → Type 0) → List ℕ → List ℕ → Type 0
 FirstFilled n Right = Changed (Below n) itself Right
+
+-- new is old, save the first n places
+abbrev pub OnlyFirst : ℕ → List ℕ → List ℕ → Type 0
+OnlyFirst n = FirstFilled n (λ i y. Unit {0})

@@ -1,7 +1,7 @@
--- The day between two far points, one before it and one after it. Points are counted from 1 and slots with them, so that the far points
+-- The day between two far points, one before it and one after it. Slots are counted from 1 here, so that the far points
 -- are 0 and slots + 2.
-use Prim.Native.Nat.{ℕ, zero, suc, _+_, _-_}
-use mathlib.Core.Bool.{Bool, false, cond, _||_}
+use Prim.Native.Nat.{ℕ, _+_, _-_}
+use mathlib.Core.Bool.{cond, _||_}
 use lib.Dec.{eqb}
 use Rattle.day.specs.declared.Day.{Day}
 use Rattle.day.specs.Gap.{price}
@@ -10,8 +10,3 @@ use Rattle.day.specs.Gap.{price}
 unfoldable pub far-price : Day → ℕ → ℕ → ℕ
 far-price day s e =
     cond (eqb s 0 || eqb e (day .slots + 2)) (day .power .wake) (price (day .power) (e - s))
-
--- the full slots, counted from 1
-unfoldable pub from-one : (ℕ → Bool) → ℕ → Bool
-from-one full zero = false
-from-one full (suc t) = full t

@@ -26,7 +26,7 @@ NoGap full slots t e = (from g : ℕ) → t ≤ from → from < e → Gap full s
 
 -- the lengths of the gaps that begin at t or later, in their order and with none left out
 pub data Listed (full : ℕ → Bool) (slots : ℕ) : ℕ → List ℕ → Type 0 where
-  none : {t : ℕ} → NoGap full slots t slots → Listed full slots t []
+  no-more : {t : ℕ} → NoGap full slots t slots → Listed full slots t []
   next : {t g : ℕ} {gs : List ℕ} (from : ℕ) → t ≤ from → NoGap full slots t from → Gap full slots from g
       → Listed full slots (suc from) gs
       → Listed full slots t (g ∷ gs)

@@ -1,17 +1,14 @@
--- The words of document 01, as definitions. Start with Windows, Plan, Gap and Best; Answer and Refusal say how an entry point answers,
--- Planned what any planner promises.
+-- The words of document 01, as definitions. Start with Windows, Plan, Gap and Best.
 pub mod Windows
 pub mod Plan
 pub mod Gap
 pub mod Number
 pub mod Numbering
 pub mod Best
+pub mod Span
 pub mod Far
-pub mod Change
-pub mod Answer
-pub mod Refusal
-pub mod Check
-pub mod Zero
-pub mod Planned
-pub mod FirstFilled
+pub mod Mirrored
+pub mod Moved
+pub mod Joined
 pub mod Changed
+pub mod Stored

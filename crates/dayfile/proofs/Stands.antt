@@ -8,11 +8,11 @@ use lib.ListN.{length, take, length-append, List·getD-append}
 use lib.Seq.{length-take-le, getD-append-add, getD-take}
 use Rattle.day.specs.declared.Day.{Day}
 use Rattle.day.specs.Windows.{Windows, at}
+use Rattle.day.specs.Stored.{Stored}
 use Rattle.day.proofs.Cases.{give, on-eq}
 use Rattle.dayfile.specs.Bytes.{bytes-of, number-at}
-use Rattle.dayfile.specs.Format.{row, rows, distance-back, trailer, column}
-use Rattle.dayfile.specs.Writer.{Stored}
-use Rattle.dayfile.proofs.Format.{length-bytes-of, length-rows}
+use Rattle.dayfile.specs.Format.{row-bytes, rows-bytes, distance-back, trailer, number-in-row}
+use Rattle.dayfile.proofs.Format.{length-bytes-of, length-rows-bytes}
 
 pub record Stands (file : List ℕ) (place : ℕ) (bytes : List ℕ) : Type 0 where
   pub byte : (i : ℕ) → i < length bytes → at file (place + i) ≡ at bytes i
@@ -57,26 +57,26 @@ number-stands {file} {place} x p =
     )
 
 -- a row
-pub row-stands : {file : List ℕ} {place : ℕ} (r d : ℕ) → Stands file place (row r d)
+pub row-stands : {file : List ℕ} {place : ℕ} (r d : ℕ) → Stands file place (row-bytes r d)
     → (number-at file place ≡ r) × (number-at file (place + 2) ≡ d)
-unfolding row
+unfolding row-bytes
 row-stands r d p = (
   number-stands r (stands-first (bytes-of r) (bytes-of d) p),
   number-stands d (stands-next (bytes-of r) (bytes-of d) 2 p (length-bytes-of r)),
 )
 
-row-of-rows : {file : List ℕ} {place : ℕ} (w : Windows) (n i : ℕ) → i < n → Stands file place (rows w n)
-    → Stands file (place + 4 * i) (row (w .release i) (w .deadline i))
-unfolding rows
+row-of-rows : {file : List ℕ} {place : ℕ} (w : Windows) (n i : ℕ) → i < n → Stands file place (rows-bytes w n)
+    → Stands file (place + 4 * i) (row-bytes (w .release i) (w .deadline i))
+unfolding rows-bytes
 row-of-rows w zero i h p = absurd (omega arith)
 row-of-rows w (suc n) i h p =
-    on-eq i n (λ e. rw e (stands-next (rows w n) (row (w .release n) (w .deadline n)) (4 * n) p (length-rows w n)))
-    (λ e. row-of-rows w n i (omega arith) (stands-first (rows w n) (row (w .release n) (w .deadline n)) p))
+    on-eq i n (λ e. rw e (stands-next (rows-bytes w n) (row-bytes (w .release n) (w .deadline n)) (4 * n) p (length-rows-bytes w n)))
+    (λ e. row-of-rows w n i (omega arith) (stands-first (rows-bytes w n) (row-bytes (w .release n) (w .deadline n)) p))
 
 -- n rows
-pub rows-stand : {file : List ℕ} {place : ℕ} (w : Windows) (n i : ℕ) → i < n → Stands file place (rows w n)
-    → (column file place i ≡ w .release i) × (column file (place + 2) i ≡ w .deadline i)
-unfolding column
+pub rows-stand : {file : List ℕ} {place : ℕ} (w : Windows) (n i : ℕ) → i < n → Stands file place (rows-bytes w n)
+    → (number-in-row file place i ≡ w .release i) × (number-in-row file (place + 2) i ≡ w .deadline i)
+unfolding number-in-row
 rows-stand {file} {place} w n i h p =
     let deadline-place : place + 2 + 4 * i ≡ place + 4 * i + 2 = omega arith in
     give (row-stands (w .release i) (w .deadline i) (row-of-rows w n i h p))

@@ -2,29 +2,17 @@
 use Prim.Native.Nat.{ℕ}
 use mathlib.Core.Path.{_≡_, sym, _∙_, ap}
 use mathlib.Core.List.{List}
-use native.Mathlib.Omega.{arith}
-use Rattle.day.specs.declared.Answer.{Answer}
+use Rattle.checks.specs.declared.Answer.{Answer}
 use Rattle.day.specs.declared.Day.{Day}
-use Rattle.day.specs.Answer.{done}
+use Rattle.checks.specs.Answer.{done}
 use Rattle.day.proofs.Cases.{on-eq, give}
-use Rattle.day.proofs.Refusal.{code-of, refuses-is-check, then-unique, passed-unique}
-use Rattle.day.proofs.FirstFilled.{filled-unique}
-use Rattle.dayfile.specs.declared.Reading.{Reading}
-use Rattle.dayfile.specs.Reader.{no-reading, FileCheck, Read}
-use Rattle.dayfile.specs.Writer.{RoomCheck, Written}
-use Rattle.dayfile.proofs.Reader.{day-ext}
-
-pub file-check-unique : (file : List ℕ) (room : ℕ) (a b : Answer) → FileCheck file room a → FileCheck file room b → a ≡ b
-file-check-unique file room =
-    then-unique (refuses-is-check (λ e. omega arith))
-    (then-unique (refuses-is-check (λ e. omega arith))
-    (then-unique (refuses-is-check (λ e. omega arith))
-    (then-unique (refuses-is-check (λ e. omega arith))
-    (then-unique (refuses-is-check (λ e. omega arith)) (passed-unique (refuses-is-check (λ e. omega arith)))))))
-
-room-check-unique : (m n room : ℕ) (a b : Answer) → RoomCheck m n room a → RoomCheck m n room b → a ≡ b
-room-check-unique m n room =
-    then-unique (refuses-is-check (λ e. omega arith)) (passed-unique (refuses-is-check (λ e. omega arith)))
+use Rattle.checks.proofs.Refusal.{code-of, passed-unique}
+use Rattle.day.proofs.Changed.{filled-unique}
+use Rattle.dayfile.specs.declared.reader.Reading.{Reading}
+use Rattle.dayfile.specs.Reader.{no-reading, ReadPromise}
+use Rattle.dayfile.specs.Writer.{WritePromise}
+use Rattle.dayfile.proofs.Accepted.{file-is-check, room-is-check}
+use Rattle.dayfile.proofs.RowsRead.{day-ext}
 
 reading-ext : (r q : Reading) → r .answer ≡ q .answer → r .count ≡ q .count → r .day ≡ q .day → r ≡ q
 reading-ext r q a c d = let same : reading-of (r .answer) (r .count) (r .day) ≡ q = rw (a, c, d) in same
@@ -32,10 +20,10 @@ reading-ext r q a c d = let same : reading-of (r .answer) (r .count) (r .day) �
     reading-of : Answer → ℕ → Day → Reading
     reading-of answer count day = record { answer = answer; count = count; day = day }
 
-pub read-unique : {file xs ys xs-after ys-after xs-other ys-other : List ℕ} {r q : Reading} → Read file xs ys r xs-after ys-after
-    → Read file xs ys q xs-other ys-other → (r ≡ q) × (xs-after ≡ xs-other) × (ys-after ≡ ys-other)
-read-unique {file = file} {r = r} {q = q} p s =
-    give (file-check-unique file _ (r .answer) (q .answer) (p .answer) (s .answer))
+pub read-unique : {file xs ys xs-after ys-after xs-other ys-other : List ℕ} {r q : Reading} → ReadPromise file xs ys r xs-after ys-after
+    → ReadPromise file xs ys q xs-other ys-other → (r ≡ q) × (xs-after ≡ xs-other) × (ys-after ≡ ys-other)
+read-unique {r = r} {q = q} p s =
+    give (passed-unique (file-is-check _ _) (r .answer) (q .answer) (p .answer) (s .answer))
     (λ same.
     give (code-of same)
     (λ code.
@@ -60,9 +48,9 @@ read-unique {file = file} {r = r} {q = q} p s =
     ))))))
 
 pub written-unique : {m : ℕ} {day : Day} {releases deadlines file after other : List ℕ} {a b : Answer}
-    → Written m day releases deadlines file a after → Written m day releases deadlines file b other → (a ≡ b) × (after ≡ other)
+    → WritePromise m day releases deadlines file a after → WritePromise m day releases deadlines file b other → (a ≡ b) × (after ≡ other)
 written-unique {a = a} {b = b} p s =
-    give (room-check-unique _ _ _ a b (p .answer) (s .answer))
+    give (passed-unique (room-is-check _ _ _) a b (p .answer) (s .answer))
     (λ same.
     give (code-of same)
     (λ code. (

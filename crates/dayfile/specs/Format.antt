@@ -4,17 +4,17 @@ use mathlib.Core.Path.{_≡_}
 use mathlib.Core.List.{List, [], _∷_, _++_}
 use lib.ListN.{length}
 use Rattle.day.specs.declared.Day.{Day}
-use Rattle.day.specs.Windows.{Windows, at}
+use Rattle.day.specs.Windows.{Windows, windows, at}
 use Rattle.dayfile.specs.Bytes.{bytes-of, number-at}
 
 -- a row is r then d
-unfoldable pub row : ℕ → ℕ → List ℕ
-row release deadline = bytes-of release ++ bytes-of deadline
+unfoldable pub row-bytes : ℕ → ℕ → List ℕ
+row-bytes release deadline = bytes-of release ++ bytes-of deadline
 
 -- the first n rows
-unfoldable pub rows : Windows → ℕ → List ℕ
-rows w zero = []
-rows w (suc n) = rows w n ++ row (w .release n) (w .deadline n)
+unfoldable pub rows-bytes : Windows → ℕ → List ℕ
+rows-bytes w zero = []
+rows-bytes w (suc n) = rows-bytes w n ++ row-bytes (w .release n) (w .deadline n)
 
 -- how far the first of n rows lies before the file's end
 abbrev pub distance-back : ℕ → ℕ
@@ -31,7 +31,7 @@ trailer n day =
 
 -- what follows the notes
 unfoldable pub rows-and-trailer : Day → Windows → List ℕ
-rows-and-trailer day w = rows w (w .count) ++ trailer (w .count) day
+rows-and-trailer day w = rows-bytes w (w .count) ++ trailer (w .count) day
 
 -- what a file of at least 10 bytes says in its trailer
 abbrev pub count-in : List ℕ → ℕ
@@ -46,16 +46,28 @@ wake-in file = number-at file (length file - 6)
 abbrev pub distance-in : List ℕ → ℕ
 distance-in file = number-at file (length file - 4)
 
-abbrev pub Marked : List ℕ → Type 0
-Marked file = (at file (length file - 2) ≡ 80) × (at file (length file - 1) ≡ 76)
+abbrev pub HasMark : List ℕ → Type 0
+HasMark file = (at file (length file - 2) ≡ 80) × (at file (length file - 1) ≡ 76)
 
 -- the number of row i, counted from 0, that stands at a place of the first row
-unfoldable pub column : List ℕ → ℕ → ℕ → ℕ
-column file place i = number-at file (place + 4 * i)
+unfoldable pub number-in-row : List ℕ → ℕ → ℕ → ℕ
+number-in-row file place i = number-at file (place + 4 * i)
 
 -- what a file says in its rows
 abbrev pub release-in : List ℕ → ℕ → ℕ
-release-in file = column file (length file - distance-in file)
+release-in file = number-in-row file (length file - distance-in file)
 
 abbrev pub deadline-in : List ℕ → ℕ → ℕ
-deadline-in file = column file (length file - distance-in file + 2)
+deadline-in file = number-in-row file (length file - distance-in file + 2)
+
+-- the list of f 0 up to f (n - 1)
+unfoldable pub listed : (ℕ → ℕ) → ℕ → List ℕ
+listed f zero = []
+listed f (suc n) = listed f n ++ (f n ∷ [])
+
+-- the day and the rows of a file
+abbrev pub file-day : List ℕ → Day
+file-day file = record { slots = slots-in file; power = record { wake = wake-in file } }
+
+abbrev pub file-windows : List ℕ → Windows
+file-windows file = windows (listed (release-in file) (count-in file)) (listed (deadline-in file) (count-in file))

@@ -3,13 +3,13 @@ use Prim.Native.Nat.{ℕ, _<_, min}
 use mathlib.Core.Path.{_≡_}
 use mathlib.Core.List.{List}
 use lib.ListN.{length}
-use Rattle.day.specs.declared.Answer.{Answer}
-use Rattle.day.specs.Answer.{done, too-many-jobs, short-file, wrong-mark, wrong-distance, cut-file, few-rows}
-use Rattle.day.specs.Refusal.{_then_, Refuses, Passed}
-use Rattle.day.specs.Check.{most-jobs}
-use Rattle.day.specs.FirstFilled.{FirstFilled}
-use Rattle.dayfile.specs.declared.Reading.{Reading}
-use Rattle.dayfile.specs.Format.{distance-back, count-in, slots-in, wake-in, distance-in, Marked, release-in, deadline-in}
+use Rattle.checks.specs.declared.Answer.{Answer}
+use Rattle.checks.specs.Answer.{done, too-many-jobs, short-file, wrong-mark, wrong-distance, cut-file, few-rows}
+use Rattle.checks.specs.Refusal.{_then_, Refuses, Passed}
+use Rattle.checks.specs.Check.{most-jobs}
+use Rattle.day.specs.Changed.{FirstFilled}
+use Rattle.dayfile.specs.declared.reader.Reading.{Reading}
+use Rattle.dayfile.specs.Format.{distance-back, count-in, slots-in, wake-in, distance-in, HasMark, release-in, deadline-in}
 
 -- under a refusal n, T and L are 0
 abbrev pub no-reading : Answer → Reading
@@ -23,12 +23,11 @@ FilledFrom n f xs ys = FirstFilled n (λ i y. y ≡ f i) xs ys
 abbrev pub FileCheck : List ℕ → ℕ → Answer → Type 0
 FileCheck file room =
     Refuses short-file (length file < 10)
-    then Refuses wrong-mark (Marked file → ⊥)
+    then Refuses wrong-mark (HasMark file → ⊥)
     then Refuses too-many-jobs (most-jobs < count-in file)
     then Refuses wrong-distance (distance-in file ≡ distance-back (count-in file) → ⊥)
     then Refuses cut-file (length file < distance-in file)
     then Refuses few-rows (room < count-in file)
-    then Passed
 
 -- what an accepted file gives: n, T and L, and its rows in the first n places of the two lists
 pub record RowsRead (file releases deadlines : List ℕ) (r : Reading) (releases-after deadlines-after : List ℕ) : Type 0 where
@@ -44,7 +43,7 @@ pub record NothingRead (releases deadlines : List ℕ) (r : Reading) (releases-a
   pub kept-releases : releases-after ≡ releases
   pub kept-deadlines : deadlines-after ≡ deadlines
 
-pub record Read (file releases deadlines : List ℕ) (r : Reading) (releases-after deadlines-after : List ℕ) : Type 0 where
-  pub answer : FileCheck file (min (length releases) (length deadlines)) (r .answer)
+pub record ReadPromise (file releases deadlines : List ℕ) (r : Reading) (releases-after deadlines-after : List ℕ) : Type 0 where
+  pub answer : (FileCheck file (min (length releases) (length deadlines)) then Passed) (r .answer)
   pub accepted : r .answer .code ≡ done → RowsRead file releases deadlines r releases-after deadlines-after
   pub refused : (r .answer .code ≡ done → ⊥) → NothingRead releases deadlines r releases-after deadlines-after

@@ -17,7 +17,8 @@ use Rattle.dayplan.specs.declared.call.Came.{Came}
 use Rattle.dayplan.specs.declared.call.Came.the-variants.{Bytes, Nothing, Failure}
 use Rattle.dayplan.specs.declared.call.Turn.{Turn}
 use Rattle.dayplan.specs.declared.call.Turn.the-variants.{Again, Over}
-use Rattle.dayplan.specs.Calls.{Follows, bytes, nothing, again, interrupted-too-often, other-failure, Within}
+use Rattle.dayplan.specs.Calls.{Follows, bytes, nothing, again, interrupted-too-often, other-failure}
+use Rattle.dayplan.specs.steps.Room.{Within}
 
 -- a signed number is what its bits read as
 pub from-bits : (w : Width) (z : ℤ) {k : ℕ} → SFits w z → ofZ w z ≡ k → z ≡ toZ w k
@@ -37,22 +38,6 @@ pub negative-follows : {error : ℤ} {retries : ℕ} {turn : Turn} (got : ℤ) �
     → ((n : ℕ) → Follows error retries (negsuc n) turn) → Follows error retries got turn
 negative-follows (pos n) p z f = absurd (z (ap pos (omega (arith, ltb-false 0 n p))))
 negative-follows (negsuc n) p z f = f n
-
--- at most one thing follows
-pub follows-one : {error got : ℤ} {retries : ℕ} {a b : Turn} → Follows error retries got a → Follows error retries got b → a ≡ b
-follows-one (bytes n h) (bytes m g) = refl
-follows-one (bytes n h) nothing = absurd (omega arith)
-follows-one nothing (bytes m g) = absurd (omega arith)
-follows-one nothing nothing = refl
-follows-one (again n e h) (again m f g) = refl
-follows-one (again n e h) (interrupted-too-often m f g) = absurd (omega arith)
-follows-one (again n e h) (other-failure m g) = absurd (g e)
-follows-one (interrupted-too-often n e h) (again m f g) = absurd (omega arith)
-follows-one (interrupted-too-often n e h) (interrupted-too-often m f g) = refl
-follows-one (interrupted-too-often n e h) (other-failure m g) = absurd (g e)
-follows-one (other-failure n h) (again m e g) = absurd (h e)
-follows-one (other-failure n h) (interrupted-too-often m e g) = absurd (h e)
-follows-one (other-failure n h) (other-failure m g) = refl
 
 -- only fewer than 1,000 retries are followed by another
 pub again-below : {error got : ℤ} {retries : ℕ} → Follows error retries got Again → retries < 1000

@@ -1,4 +1,5 @@
 -- The laws of calls, of reading and of writing.
 pub mod Calls
-pub mod Reading
-pub mod Writing
+pub mod ReadStep
+pub mod WriteStep
+pub mod Unique

@@ -18,9 +18,3 @@ pub data Follows (error : ℤ) (retries : ℕ) : ℤ → Turn → Type 0 where
   again : (n : ℕ) → error ≡ EINTR → retries < 1000 → Follows error retries (negsuc n) Again
   interrupted-too-often : (n : ℕ) → error ≡ EINTR → 1000 ≤ retries → Follows error retries (negsuc n) (Over Failure)
   other-failure : (n : ℕ) → (error ≡ EINTR → ⊥) → Follows error retries (negsuc n) (Over Failure)
-
--- bytes that were moved are at least one, and no more than there was room for
-abbrev pub Within : ℕ → Came → Type 0
-Within room (Bytes n) = (0 < n) × (n ≤ room)
-Within room Nothing = Unit {0}
-Within room Failure = Unit {0}

@@ -1,5 +1,6 @@
--- What the program prints of what it reads, and when it reads on.
+-- What the program prints of what it reads, and when it reads on and writes on. What functions promise each other on the way is in `steps`.
 pub mod Program
 pub mod Calls
-pub mod Reading
-pub mod Writing
+pub mod ReadStep
+pub mod WriteStep
+pub mod steps

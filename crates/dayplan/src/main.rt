@@ -5,7 +5,7 @@ mod read;
 mod write;
 
 use read::Input;
-use report::text::Text;
+use text::Text;
 ghost use mathlib.Core.Path.{_≡_};
 ghost use Prim.Native.Nat.{_+_};
 ghost use lib.ListN.{length};

@@ -5,8 +5,8 @@ use crate::call::judge;
 ghost use mathlib.Core.Path.{_≡_};
 ghost use Prim.Native.Nat.{_-_, _^_};
 ghost use lib.ListN.{length};
-ghost use Rattle.dayplan.specs.Calls.{Within};
-ghost use Rattle.dayplan.specs.Reading.{Holds, after-read};
+ghost use Rattle.dayplan.specs.ReadStep.{after-read};
+ghost use Rattle.dayplan.specs.steps.Room.{FitsIn, Within};
 
 // What was read: a whole input and its length, or nothing that may be used.
 pub enum Input {
@@ -15,34 +15,34 @@ pub enum Input {
 }
 
 // Where reading stands: so many bytes are there and more may come, or it is over.
-pub enum Reading {
+pub enum ReadStep {
     At(usize),
     Over(Input),
 }
 
 // Reads until the input ends or `file` is full. Nothing else ends an input.
 pub(crate) fn read_whole(file: &mut [u8]) -> Input
-    ensures { λ input. ⌜ Holds (now (file .exit)) input ⌝ }
+    ensures { λ input. ⌜ FitsIn (now (file .exit)) input ⌝ }
 {
     let mut at: usize = 0;
     while at < file.len() {
         match advance(at, read_some(&mut file[at..])) {
-            Reading::At(next) => at = next,
-            Reading::Over(input) => return input,
+            ReadStep::At(next) => at = next,
+            ReadStep::Over(input) => return input,
         }
     }
     Input::Whole(at)
 }
 
 // Where reading stands once a read is over that began with `at` bytes there; no buffer is so long that the sum does not fit.
-fn advance(at: usize, came: Came) -> Reading
+fn advance(at: usize, came: Came) -> ReadStep
     requires { ⌜ Within (2 ^ 63 - at) came ⌝ }
-    ensures { λ reading. ⌜ reading ≡ after-read at came ⌝ }
+    ensures { λ step. ⌜ step ≡ after-read at came ⌝ }
 {
     match came {
-        Came::Bytes(count) => Reading::At(at + count),
-        Came::Nothing => Reading::Over(Input::Whole(at)),
-        Came::Failure => Reading::Over(Input::Failed),
+        Came::Bytes(count) => ReadStep::At(at + count),
+        Came::Nothing => ReadStep::Over(Input::Whole(at)),
+        Came::Failure => ReadStep::Over(Input::Failed),
     }
 }
 

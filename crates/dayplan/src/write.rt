@@ -5,11 +5,11 @@ use crate::call::judge;
 ghost use mathlib.Core.Path.{_≡_};
 ghost use Prim.Native.Nat.{_-_, _^_};
 ghost use lib.ListN.{length};
-ghost use Rattle.dayplan.specs.Calls.{Within};
-ghost use Rattle.dayplan.specs.Writing.{after-write};
+ghost use Rattle.dayplan.specs.steps.Room.{Within};
+ghost use Rattle.dayplan.specs.WriteStep.{after-write};
 
 // Where writing stands: at a place of the text, or given up.
-pub enum Writing {
+pub enum WriteStep {
     At(usize),
     Lost,
 }
@@ -19,22 +19,22 @@ pub(crate) fn write_whole(target: i32, text: &[u8]) -> bool {
     let mut at: usize = 0;
     while at < text.len() {
         match advance(at, write_some(target, &text[at..])) {
-            Writing::At(next) => at = next,
-            Writing::Lost => return false,
+            WriteStep::At(next) => at = next,
+            WriteStep::Lost => return false,
         }
     }
     true
 }
 
 // Where writing stands once a write is over that began at `at`; no text is so long that the sum does not fit.
-fn advance(at: usize, came: Came) -> Writing
+fn advance(at: usize, came: Came) -> WriteStep
     requires { ⌜ Within (2 ^ 63 - at) came ⌝ }
-    ensures { λ writing. ⌜ writing ≡ after-write at came ⌝ }
+    ensures { λ step. ⌜ step ≡ after-write at came ⌝ }
 {
     match came {
-        Came::Bytes(count) => Writing::At(at + count),
-        Came::Nothing => Writing::Lost,
-        Came::Failure => Writing::Lost,
+        Came::Bytes(count) => WriteStep::At(at + count),
+        Came::Nothing => WriteStep::Lost,
+        Came::Failure => WriteStep::Lost,
     }
 }
 

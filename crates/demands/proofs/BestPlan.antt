@@ -4,36 +4,38 @@ use mathlib.Core.Path.{_≡_, refl, _∙_, ap}
 use mathlib.Core.Logic.{inl, inr, ⊎-elim}
 use native.Mathlib.Omega.{arith}
 use lib.ListN.{length}
-use Rattle.day.specs.declared.Answer.{Answer}
+use Rattle.checks.specs.declared.Answer.{Answer}
 use Rattle.day.specs.declared.Day.{Day}
 use Rattle.day.specs.Windows.{Windows, at}
 use Rattle.day.specs.Plan.{Plan, NoPlan}
 use Rattle.day.specs.Gap.{cost}
 use Rattle.day.specs.Best.{Best}
-use Rattle.day.specs.Answer.{says, done, short-table, no-plan}
-use Rattle.day.specs.Refusal.{stops, goes-on}
-use Rattle.day.specs.Check.{most-jobs, GoodRows, Accepted}
-use Rattle.day.specs.Planned.{Verdict, costs, none-proper}
+use Rattle.checks.specs.Answer.{says, done, short-table, no-plan}
+use Rattle.checks.specs.Refusal.{stops, goes-on}
+use Rattle.checks.specs.Check.{most-jobs, GoodRows, Accepted}
+use Rattle.checks.specs.Planned.{Verdict, costs, none-proper}
 use Rattle.day.proofs.Cases.{give}
-use Rattle.day.proofs.Refusal.{code-of, past, then-unique, avoids-clear, passed-clear, then-next, then-clear}
-use Rattle.day.proofs.Check.{accepted-clear}
+use Rattle.checks.proofs.Refusal.{code-of, past, then-unique, avoids-clear, passed-clear, then-next, then-clear}
+use Rattle.checks.proofs.Check.{accepted-clear}
 use Rattle.day.proofs.Best.{best-unique, best-costs}
-use Rattle.day.proofs.Planned.{verdict-unique}
+use Rattle.day.proofs.Changed.{filled-rest}
+use Rattle.checks.proofs.Planned.{best-held}
+use Rattle.checks.proofs.Unique.{verdict-unique}
 use Rattle.planner.specs.Table.{need}
 use Rattle.planner.specs.Promise.{PlanCheck}
 use Rattle.planner.proofs.Promise.{check-not-no-plan, plan-is-check, list-accepted, enough-starts, enough-table}
-use Rattle.demands.specs.Run.{Run, list, Promised, Taken, Served}
-use Rattle.demands.specs.BestPlan.{BestGiven, NoneGiven, BestOrNone, GivesBestOrNone, AnswersTaken, SevenIfNone}
+use Rattle.demands.specs.Run.{Run, list, Promised, Admitted, Served}
+use Rattle.demands.specs.BestPlan.{BestGiven, NoneGiven, BestOrNone, GivesBestOrNone, AnswersAdmitted, SevenIfNone}
 
 -- another list is accepted on the same day if its rows are good
 pub accepted-too : {day : Day} {w v : Windows} → Accepted day w → GoodRows most-jobs (day .slots) v → Accepted day v
 accepted-too old rows = record { some-slots = old .some-slots; slots = old .slots; wake = old .wake; rows = rows }
 
--- what is taken is not refused
-pub taken-clear : (run : Run) → Taken run → (b : Answer) → PlanCheck (run .day) (list run) (run .starts) (run .table) b → ⊥
-taken-clear run taken =
-    then-clear (accepted-clear (taken .accepted))
-    (then-clear (λ b r. omega (arith, r .fault, taken .places)) (λ b r. omega (arith, r .fault, taken .table)))
+-- what is admitted is not refused
+pub admitted-clear : (run : Run) → Admitted run → (b : Answer) → PlanCheck (run .day) (list run) (run .starts) (run .table) b → ⊥
+admitted-clear run admitted =
+    then-clear (accepted-clear (admitted .accepted))
+    (then-clear (λ b r. omega (arith, r .fault, admitted .room)) (λ b r. omega (arith, r .fault, admitted .table)))
 
 module _ (run : Run) (promised : Promised run) where
   given-best : (p : Plan) → Best (run .day) (list run) p → run .answer ≡ says done (cost (run .day) (list run .count) p) 0
@@ -43,14 +45,16 @@ module _ (run : Run) (promised : Promised run) where
       (λ code.
       give (promised .planned code)
       (λ here.
+      give (best-held here)
+      (λ held.
       record {
         answer =
-            answer ∙ ap (λ x. says done x 0) (best-costs (run .day) (list run) p (at (run .starts-after)) best (here .best));
-        best = here .best;
-        only = λ q other. best-unique (run .day) (list run) (at (run .starts-after)) q (here .best) other;
-        long = here .long;
-        rest = here .later;
-      }))
+            answer ∙ ap (λ x. says done x 0) (best-costs (run .day) (list run) p (at (run .starts-after)) best held);
+        best = held;
+        only = λ q other. best-unique (run .day) (list run) (at (run .starts-after)) q held other;
+        long = here .filled .long;
+        rest = filled-rest (here .filled);
+      })))
 
   given-none : NoPlan (list run) → run .answer ≡ says no-plan 0 0 → NoneGiven run
   given-none none answer =
@@ -74,10 +78,10 @@ module _ (run : Run) (promised : Promised run) where
 
 pub best-or-none : GivesBestOrNone
 best-or-none run served =
-    given run (served .promised) (then-next (taken-clear run (served .taken)) (run .answer) (served .promised .answer))
+    given run (served .promised) (then-next (admitted-clear run (served .admitted)) (run .answer) (served .promised .answer))
 
-pub answers-taken : AnswersTaken
-answers-taken run promised code =
+pub answers-admitted : AnswersAdmitted
+answers-admitted run promised code =
     give
     (⊎-elim (passed-clear (plan-is-check (run .day) (list run) (run .starts) (run .table)) (run .answer) (promised .answer))
     (avoids-clear (λ a p. check-not-no-plan (run .day) (list run) (run .starts) (run .table) a (stops p)) (run .answer) (promised .answer))
@@ -85,7 +89,7 @@ answers-taken run promised code =
     (λ clear.
     record {
       accepted = list-accepted (run .day) (list run) (run .starts) (run .table) clear;
-      places = enough-starts (run .day) (list run) (run .starts) (run .table) clear;
+      room = enough-starts (run .day) (list run) (run .starts) (run .table) clear;
       table = enough-table (run .day) (list run) (run .starts) (run .table) clear;
     })
 

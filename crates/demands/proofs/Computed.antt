@@ -7,7 +7,7 @@ use mathlib.Core.List.{List}
 use native.Mathlib.Omega.{arith}
 use lib.Dec.{eqb}
 use lib.ListN.{length}
-use Rattle.day.specs.declared.Answer.{Answer}
+use Rattle.checks.specs.declared.Answer.{Answer}
 use Rattle.day.specs.declared.Day.{Day}
 use Rattle.day.specs.Windows.{Windows, at}
 use Rattle.day.specs.Plan.{Plan, NoPlan}
@@ -15,19 +15,19 @@ use Rattle.day.specs.Number.{Lower, Numbered}
 use Rattle.day.specs.Gap.{price, cost}
 use Rattle.day.specs.Far.{far-price}
 use Rattle.day.specs.Best.{Best}
-use Rattle.day.specs.Answer.{says, done, no-plan}
-use Rattle.day.specs.Refusal.{stops, goes-on}
-use Rattle.day.specs.Zero.{zeroed}
-use Rattle.day.specs.Check.{most-slots, most-wake, most-jobs, GoodRows, Accepted}
+use Rattle.checks.specs.Answer.{says, done, no-plan}
+use Rattle.checks.specs.Refusal.{stops, goes-on}
+use Rattle.checks.specs.Zero.{zeroed}
+use Rattle.checks.specs.Check.{most-slots, most-wake, most-jobs, GoodRows, Accepted}
 use Rattle.day.proofs.Bound.{cost-at-most-slots}
 use Rattle.rule.specs.Extreme.{least, latest}
 use Rattle.rule.specs.Span.{in-span, clear, may-split, value-by, value, sides, best-split, split, read-back}
 use Rattle.rule.specs.Whole.{whole, whole-back, Ready}
 use Rattle.rule.proofs.Whole.{whole-none, whole-best}
 use Rattle.planner.specs.Table.{need}
-use Rattle.day.specs.Planned.{costs, none-proper, Planned}
+use Rattle.checks.specs.Planned.{costs, none-proper, Planned}
 use Rattle.planner.specs.Promise.{PlanCheck}
-use Rattle.day.proofs.Planned.{planned-refused}
+use Rattle.checks.proofs.Planned.{planned-refused, best-in}
 use Rattle.demands.proofs.Test.{Test, less, at-most, equal, both, either, any-of, through, differ, is-less, all-below, same-numbers, same-from, same-answer}
 use Rattle.demands.proofs.ExamplesChecked.{Judge, judge-then, judge-whole, judge-list}
 
@@ -126,7 +126,7 @@ module _ {Check : Answer → Type 0} (judge : Judge Check) (need : ℕ) (day : D
       (λ t.
       record {
         answer = goes-on (t .0 .0) (costs (at starts-after) (t .0 .1 .1) (t .1 .0));
-        planned = λ e. record { long = t .1 .1 .0 .0; best = t .0 .1 .1; later = t .1 .1 .0 .1 };
+        planned = λ e. best-in (t .0 .1 .1) (t .1 .1 .0 .0) (t .1 .1 .0 .1);
         unplanned = λ n. absurd (n (ap (λ (x : Answer). x .code) (t .1 .0)));
         cleared = λ e. t .1 .1 .1;
         kept = λ n m. absurd (n (ap (λ (x : Answer). x .code) (t .1 .0)));

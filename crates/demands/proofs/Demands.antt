@@ -1,6 +1,6 @@
 -- All that is promised holds. Assumes nothing.
 use Rattle.demands.specs.Demands.{Demands}
-use Rattle.demands.proofs.BestPlan.{best-or-none, answers-taken, seven-exactly}
+use Rattle.demands.proofs.BestPlan.{best-or-none, answers-admitted, seven-exactly}
 use Rattle.demands.proofs.DayFile.{reads-back}
 use Rattle.demands.proofs.Gaps.{gaps-are-listed}
 use Rattle.demands.proofs.Joined.{appended-joined, joined-accepted}
@@ -22,7 +22,7 @@ pub demands : Demands
 demands =
     record {
       best-plan = best-or-none;
-      checked = answers-taken;
+      checked = answers-admitted;
       seven = seven-exactly;
       gaps = gaps-are-listed;
       day-file = reads-back;

@@ -6,22 +6,22 @@ use mathlib.Core.Logic.{_⊎_, inl, inr, ⊎-elim}
 use native.Mathlib.Omega.{arith}
 use lib.ListN.{length, drop, length-map}
 use lib.Seq.{ext-getD}
-use Rattle.day.specs.declared.Answer.{Answer}
+use Rattle.checks.specs.declared.Answer.{Answer}
 use Rattle.day.specs.declared.Day.{Day}
 use Rattle.day.specs.Windows.{Windows, at}
 use Rattle.day.specs.Plan.{Plan, NoPlan, taken}
 use Rattle.day.specs.Gap.{price, ended, gaps-since, gaps, total, cost}
 use Rattle.day.specs.Best.{Best}
-use Rattle.day.specs.Answer.{says, done, short-table, no-plan}
-use Rattle.day.specs.Check.{Accepted}
+use Rattle.checks.specs.Answer.{says, done, short-table, no-plan}
+use Rattle.checks.specs.Check.{Accepted}
 use Rattle.day.proofs.Cases.{give}
 use Rattle.day.proofs.Gap.{cost-agree}
 use Rattle.day.proofs.Bound.{cost-at-most-wakes}
 use Rattle.planner.specs.Table.{need}
 use Rattle.demands.specs.Run.{Run, list, Promised, Served}
 use Rattle.demands.specs.BestPlan.{BestGiven}
-use Rattle.demands.specs.ExamplesTable.{day-with, rows-of}
-use Rattle.demands.specs.Examples.{Amount, exactly, up-to, at-least, Is, Example, Plans, Shows, Holds, examples, ExamplesHold, Lent, PlansTo, refused-plans, RefusedPlansHold}
+use Rattle.demands.specs.ExamplesTable.{day-with, list-with}
+use Rattle.demands.specs.Examples.{Amount, exactly, up-to, at-least, Is, Example, Plans, Shows, ExampleHolds, examples, ExamplesHold, PlanInput, PlansTo, refused-plans, RefusedPlansHold}
 use Rattle.demands.proofs.Test.{Test, less, at-most, equal, fails, both, either, through, all-in}
 use Rattle.demands.proofs.ExamplesChecked.{shown-test}
 use Rattle.demands.proofs.Computed.{accepted-test, best-test, no-plan-test, judge-plan, refused-plan}
@@ -60,7 +60,7 @@ abbrev day-at : Example → ℕ → Day
 day-at e wake = day-with (e .slots) wake
 
 abbrev list-of : Example → Windows
-list-of e = rows-of (e .jobs)
+list-of e = list-with (e .jobs)
 
 -- all that an amount allows is enough
 abbrev enough : (least : ℕ) (m : Amount) → Test ((x : ℕ) → Is m x → least ≤ x)
@@ -185,7 +185,7 @@ module _ (e : Example) (run : Run) (plans : Plans e run) (promised : Promised ru
 
   served : Accepted (run .day) (list run) → need (run .day .slots) (list run .count) ≤ length (run .table) → Served run
   served accepted table =
-      record { promised = promised; taken = record { accepted = accepted; places = room; table = table } }
+      record { promised = promised; admitted = record { accepted = accepted; room = room; table = table } }
 
   best-shown : HasBest e (run .day) (list run) → BestGiven run → Shows e run
   best-shown known given =
@@ -232,7 +232,7 @@ same-day e run plans = ap (λ (slots : ℕ). record { slots = slots; power = run
 same-list : (e : Example) (run : Run) → Plans e run → list-of e ≡ list run
 same-list e run plans = rw (plans .releases, plans .deadlines)
 
-example-test : (e : Example) → Test (Holds e)
+example-test : (e : Example) → Test (ExampleHolds e)
 example-test e =
     through
     (λ known run plans promised.
@@ -246,7 +246,7 @@ pub examples-hold : ExamplesHold
 unfolding examples example-test known-test best-known none-known short-known best-test no-plan-test need cost price total gaps gaps-since ended taken
 examples-hold = all-in example-test examples .shows refl
 
-abbrev refused-test : (lent : Lent) (after : Answer × List ℕ × List ℕ) → Test (PlansTo lent after)
+abbrev refused-test : (lent : PlanInput) (after : Answer × List ℕ × List ℕ) → Test (PlansTo lent after)
 refused-test lent after =
     refused-plan (judge-plan (lent .day) (lent .rows) (lent .starts) (lent .table)) (need (lent .day .slots) (lent .rows .count)) (lent .day)
     (lent .rows) (lent .starts) (lent .table) (after .0) (after .1) (after .2)

@@ -3,13 +3,13 @@
 use Prim.Native.Nat.{ℕ, _+_, _-_, _≤_, _<_}
 use mathlib.Core.Logic.{_⊎_, ⊎-elim}
 use native.Mathlib.Omega.{arith}
-use Rattle.day.specs.declared.Answer.{Answer}
+use Rattle.checks.specs.declared.Answer.{Answer}
 use Rattle.day.specs.declared.Day.{Day}
 use Rattle.day.specs.Windows.{Windows}
-use Rattle.day.specs.Answer.{says, done}
-use Rattle.day.specs.Refusal.{_then_, stops, goes-on, Passed, Refuses, First, RefusesRow, FirstPair, RefusesPair}
-use Rattle.day.specs.Check.{most-slots, most-wake, most-jobs, SlotsCheck, JobsCheck, TimesCheck, ListCheck}
-use Rattle.day.proofs.Refusal.{then-next, then-clear}
+use Rattle.checks.specs.Answer.{says, done}
+use Rattle.checks.specs.Refusal.{_then_, stops, goes-on, Passed, Refuses, First, RefusesRow, FirstPair, RefusesPair}
+use Rattle.checks.specs.Check.{most-slots, most-wake, most-jobs, SlotsCheck, JobsCheck, TimesCheck, ListCheck}
+use Rattle.checks.proofs.Refusal.{then-next, then-clear}
 use Rattle.demands.specs.ExamplesTable.{Shown}
 use Rattle.demands.specs.OneOutcome.{AtMostOne}
 use Rattle.demands.proofs.Test.{
@@ -114,20 +114,9 @@ judge-pair code n fault =
           (no-pair fault n n);
     }
 
--- checks in order that end with nothing left to refuse: the answer, and that it can be no refusal
-pub record Ended (Checks : Answer → Type 0) : Type 0 where
-  pub answer : (a : Answer) → Test (Checks a)
-  pub passed : Test ((b : Answer) → Checks b → Passed b)
-
-abbrev pub none-left : Ended Passed
-none-left = record { answer = λ a. same-answer a (says done 0 0); passed = holds (λ b p. p) }
-
-abbrev pub ended-then : {Check Next : Answer → Type 0} → Judge Check → Ended Next → Ended (Check then Next)
-ended-then judge next =
-    record {
-      answer = answers judge (next .answer);
-      passed = through (λ f b p. f .1 b (then-next (f .0) b p)) (both (judge .clear) (next .passed));
-    }
+-- nothing is left to refuse
+abbrev pub passed : (a : Answer) → Test (Passed a)
+passed a = same-answer a (says done 0 0)
 
 -- the checks that entry points share
 

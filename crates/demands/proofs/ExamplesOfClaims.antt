@@ -5,14 +5,14 @@ use mathlib.Core.List.{List}
 use mathlib.Core.Logic.{⊎-elim}
 use native.Mathlib.Omega.{arith}
 use lib.ListN.{length}
-use Rattle.day.specs.declared.Answer.{Answer}
+use Rattle.checks.specs.declared.Answer.{Answer}
 use Rattle.day.specs.declared.Day.{Day}
 use Rattle.day.specs.Windows.{Windows, at}
 use Rattle.day.specs.Plan.{MayStart, taken}
 use Rattle.day.specs.Gap.{price, ended, gaps-since, gaps, total, cost}
-use Rattle.day.specs.Answer.{says, done}
-use Rattle.day.specs.Check.{ListCheck}
-use Rattle.claim.specs.Claim.{Fit, Outside, Together, StartsCheck, ClaimCheck, plan-cost}
+use Rattle.checks.specs.Answer.{says, done}
+use Rattle.checks.specs.Check.{ListCheck}
+use Rattle.claim.specs.Claim.{Fit, OutsideWindow, Together, StartsCheck, ClaimCheck, plan-cost}
 use Rattle.claim.specs.Choice.{own-plan, server-plan, own-wins, server-wins, NamesWinner, NeitherCheck}
 use Rattle.claim.proofs.Claim.{clear-fit}
 use Rattle.demands.specs.ExamplesOfClaims.{
@@ -50,7 +50,7 @@ use Rattle.demands.proofs.OneOutcome.{one-outcome}
 abbrev may-start : (w : Windows) (i t : ℕ) → BothWays (MayStart w i t)
 may-start w i t = is-both (is-at-most (w .release i) t) (is-at-most (t + 1) (w .deadline i))
 
-abbrev outside : (w : Windows) (starts : List ℕ) (i : ℕ) → BothWays (Outside w starts i)
+abbrev outside : (w : Windows) (starts : List ℕ) (i : ℕ) → BothWays (OutsideWindow w starts i)
 outside w starts i = is-not (may-start w i (at starts i))
 
 abbrev together : (starts : List ℕ) (i j : ℕ) → BothWays (Together starts i j)

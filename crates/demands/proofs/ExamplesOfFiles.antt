@@ -1,24 +1,25 @@
 -- The examples of reading, writing and planning a day file hold: each row's outcome is tested. Assumes nothing.
 use Prim.Native.Nat.{ℕ, _+_, _-_, min}
-use mathlib.Core.Path.{_≡_, refl, ap}
+use mathlib.Core.Path.{_≡_, refl}
 use mathlib.Core.List.{List, [], _∷_, _++_}
 use lib.ListN.{length, take, drop, replicate}
-use Rattle.day.specs.declared.Answer.{Answer}
+use Rattle.checks.specs.declared.Answer.{Answer}
 use Rattle.day.specs.declared.Day.{Day}
 use Rattle.day.specs.Windows.{Windows, windows, at}
 use Rattle.day.specs.Plan.{taken}
 use Rattle.day.specs.Gap.{price, asleep, ended, gaps-since, gaps, total, cost}
-use Rattle.day.specs.Zero.{zeroed}
-use Rattle.day.specs.Answer.{says, done}
-use Rattle.day.specs.Check.{most-jobs}
+use Rattle.checks.specs.Zero.{zeroed}
+use Rattle.checks.specs.Answer.{says, done}
+use Rattle.checks.specs.Check.{most-jobs, ListCheck}
+use Rattle.day.specs.Stored.{Stored}
 use Rattle.claim.specs.Rows.{row-at, holds-job}
 use Rattle.planner.specs.Table.{need}
-use Rattle.ledger.proofs.Column.{gain}
-use Rattle.dayfile.specs.declared.Reading.{Reading}
+use Rattle.ledger.proofs.CountedAs.{gain}
+use Rattle.dayfile.specs.declared.reader.Reading.{Reading}
 use Rattle.dayfile.specs.Bytes.{bytes-of, number-at}
 use Rattle.dayfile.specs.Format.{
-  row,
-  rows,
+  row-bytes,
+  rows-bytes,
   distance-back,
   trailer,
   rows-and-trailer,
@@ -26,19 +27,22 @@ use Rattle.dayfile.specs.Format.{
   slots-in,
   wake-in,
   distance-in,
-  Marked,
-  column,
+  HasMark,
+  number-in-row,
   release-in,
   deadline-in,
+  listed,
+  file-day,
+  file-windows,
 }
-use Rattle.dayfile.specs.Reader.{no-reading, FilledFrom, FileCheck, RowsRead, NothingRead, Read}
-use Rattle.dayfile.specs.Writer.{file-length, RoomCheck, Stored}
-use Rattle.ledger.specs.Promise.{no-counts, LedgerPromise}
+use Rattle.dayfile.specs.Reader.{no-reading, FilledFrom, FileCheck, RowsRead, NothingRead, ReadPromise}
+use Rattle.dayfile.specs.Writer.{file-length, RoomCheck}
+use Rattle.ledger.specs.Promise.{no-counts, Ledgered}
 use Rattle.report.specs.declared.Outcome.{Outcome}
-use Rattle.report.specs.declared.text.Text.{Text}
-use Rattle.report.specs.Decimal.{digits, decimal}
-use Rattle.report.specs.Lines.{spaced, plan-line, row-line, row-lines, slots-line, lines, Prints}
-use Rattle.report.specs.File.{most-bytes, listed, day-of, windows-of, ReaderCheck, FilePlanCheck, no-outcome, FileReported}
+use Rattle.text.specs.declared.Text.{Text}
+use Rattle.text.specs.Decimal.{digits, decimal}
+use Rattle.text.specs.Lines.{spaced, plan-line, row-line, row-lines, slots-line, lines, Prints}
+use Rattle.report.specs.File.{most-bytes, FilePlanCheck, InputPlanCheck, no-outcome, ListReported}
 use Rattle.demands.specs.ExamplesTable.{Shown, releases-of, deadlines-of}
 use Rattle.demands.specs.ExamplesOfLedger.{counts-of}
 use Rattle.demands.specs.ExamplesOfFiles.{
@@ -64,40 +68,35 @@ use Rattle.demands.proofs.Test.{
   equal,
   both,
   through,
-  differ,
   by-equal,
   BothWays,
   is-less,
   is-equal,
   is-not,
   is-both,
-  all-below,
   same-numbers,
-  same-from,
+  first-filled,
   all-in,
   all-with,
 }
-use Rattle.demands.proofs.ExamplesChecked.{shown-test, Judge, judge-then, judge-whole, Ended, none-left, ended-then}
+use Rattle.demands.proofs.ExamplesChecked.{shown-test, Judge, answers, judge-then, judge-whole, passed}
 use Rattle.demands.proofs.Computed.{best-test, no-plan-test, judge-plan, planned}
 use Rattle.demands.proofs.ExamplesOfLedger.{same-counts, ledger-test}
 use Rattle.demands.proofs.OneOutcome.{one-outcome}
 
-abbrev is-marked : (file : List ℕ) → BothWays (Marked file)
+abbrev is-marked : (file : List ℕ) → BothWays (HasMark file)
 is-marked file = is-both (is-equal (at file (length file - 2)) 80) (is-equal (at file (length file - 1)) 76)
 
-abbrev file-checks : (file : List ℕ) (room : ℕ) → Ended (FileCheck file room)
-file-checks file room =
-    ended-then (judge-whole _ (is-less (length file) 10))
-    (ended-then (judge-whole _ (is-not (is-marked file)))
-    (ended-then (judge-whole _ (is-less most-jobs (count-in file)))
-    (ended-then (judge-whole _ (is-not (is-equal (distance-in file) (distance-back (count-in file)))))
-    (ended-then (judge-whole _ (is-less (length file) (distance-in file)))
-    (ended-then (judge-whole _ (is-less room (count-in file))) none-left)))))
+abbrev judge-reader : (file : List ℕ) (room : ℕ) → Judge (FileCheck file room)
+judge-reader file room =
+    judge-then (judge-whole _ (is-less (length file) 10))
+    (judge-then (judge-whole _ (is-not (is-marked file)))
+    (judge-then (judge-whole _ (is-less most-jobs (count-in file)))
+    (judge-then (judge-whole _ (is-not (is-equal (distance-in file) (distance-back (count-in file)))))
+    (judge-then (judge-whole _ (is-less (length file) (distance-in file))) (judge-whole _ (is-less room (count-in file)))))))
 
 abbrev filled-from : (n : ℕ) (f : ℕ → ℕ) (xs ys : List ℕ) → Test (FilledFrom n f xs ys)
-filled-from n f xs ys =
-    through (λ t. record { as-long = t .0 .0; filled = t .1; rest = t .0 .1 })
-    (both (same-from n xs ys) (all-below (λ i. equal (at ys i) (f i)) n))
+filled-from n f = first-filled (λ i y. equal y (f i)) n
 
 abbrev rows-read : (file releases deadlines : List ℕ) (r : Reading) (rs ds : List ℕ) → Test (RowsRead file releases deadlines r rs ds)
 rows-read file releases deadlines r rs ds =
@@ -120,24 +119,23 @@ nothing-read releases deadlines r rs ds =
     (both (both (equal (r .count) 0) (both (equal (r .day .slots) 0) (equal (r .day .power .wake) 0)))
     (both (same-numbers rs releases) (same-numbers ds deadlines)))
 
-abbrev read : (file releases deadlines : List ℕ) (r : Reading) (rs ds : List ℕ) → Test (Read file releases deadlines r rs ds)
+abbrev read : (file releases deadlines : List ℕ) (r : Reading) (rs ds : List ℕ) → Test (ReadPromise file releases deadlines r rs ds)
 read file releases deadlines r rs ds =
     through (λ t. record { answer = t .0; accepted = t .1 .0; refused = t .1 .1 })
-    (both (file-checks file (min (length releases) (length deadlines)) .answer (r .answer))
+    (both (answers (judge-reader file (min (length releases) (length deadlines))) passed (r .answer))
     (by-equal (r .answer .code) done (rows-read file releases deadlines r rs ds) (nothing-read releases deadlines r rs ds)))
 
 abbrev read-test : (r : FileRead) (after : Reading × List ℕ × List ℕ) → Test (ReadsTo r after)
 read-test r after = read (r .file) (releases-of (r .jobs)) (deadlines-of (r .jobs)) (after .0) (after .1) (after .2)
 
 pub read-examples-hold : ReadExamplesHold
-unfolding read-examples number-at column
+unfolding read-examples number-at number-in-row
 read-examples-hold =
     all-in (shown-test (λ r. one-outcome .read (r .file) (releases-of (r .jobs)) (deadlines-of (r .jobs))) read-test) read-examples .shows
     refl
 
-abbrev room-checks : (m n room : ℕ) → Ended (RoomCheck m n room)
-room-checks m n room =
-    ended-then (judge-whole _ (is-less most-jobs n)) (ended-then (judge-whole _ (is-less room (file-length m n))) none-left)
+abbrev judge-room : (m n room : ℕ) → Judge (RoomCheck m n room)
+judge-room m n room = judge-then (judge-whole _ (is-less most-jobs n)) (judge-whole _ (is-less room (file-length m n)))
 
 abbrev stored : (place : ℕ) (bytes file after : List ℕ) → Test (Stored place bytes file after)
 stored place bytes file after =
@@ -146,59 +144,51 @@ stored place bytes file after =
 abbrev written-test : (w : FileWritten) (after : Answer × List ℕ) → Test (WritesTo w after)
 written-test w after =
     through (λ t. record { answer = t .0; accepted = t .1 .0; refused = t .1 .1 })
-    (both (room-checks (w .notes) (length (releases-of (w .jobs))) (length (w .buffer)) .answer (after .0))
+    (both (answers (judge-room (w .notes) (length (releases-of (w .jobs))) (length (w .buffer))) passed (after .0))
     (by-equal (after .0 .code) done
     (stored (w .notes) (rows-and-trailer (w .day) (windows (releases-of (w .jobs)) (deadlines-of (w .jobs)))) (w .buffer) (after .1))
     (same-numbers (after .1) (w .buffer))))
 
 pub written-examples-hold : WrittenExamplesHold
-unfolding written-examples rows-and-trailer rows row trailer bytes-of
+unfolding written-examples rows-and-trailer rows-bytes row-bytes trailer bytes-of
 written-examples-hold =
     all-in
     (shown-test (λ w. one-outcome .write (w .notes) (w .day) (releases-of (w .jobs)) (deadlines-of (w .jobs)) (w .buffer)) written-test)
     written-examples .shows
     refl
 
-abbrev judge-reader : (file : List ℕ) → Judge (ReaderCheck file)
-judge-reader file =
-    record {
-      refuses = λ a.
-          through (λ t. record { reads = t .0; refused = t .1 }) (both (file-checks file most-jobs .answer a) (differ (a .code) done));
-      clear =
-          through (λ p b r. r .refused (ap (λ (x : Answer). x .code) (p b (r .reads)))) (file-checks file most-jobs .passed);
-    }
-
 abbrev judge-file : (file starts table : List ℕ) → Judge (FilePlanCheck file starts table)
-judge-file file starts table =
-    judge-then (judge-then (judge-whole _ (is-less most-bytes (length file))) (judge-reader file))
-    (judge-plan (day-of file) (windows-of file) starts table)
+judge-file file starts table = judge-then (judge-reader file most-jobs) (judge-plan (file-day file) (file-windows file) starts table)
+
+abbrev judge-input : (file starts table : List ℕ) → Judge (InputPlanCheck file starts table)
+judge-input file starts table = judge-then (judge-whole _ (is-less most-bytes (length file))) (judge-file file starts table)
 
 nothing-planned : (o : Outcome) → o .count ≡ 0 → o .counts ≡ no-counts → o ≡ no-outcome (o .answer)
 nothing-planned o n counts = rw (n, counts)
 
 -- a plan has its rows and its ledger, a refusal neither
 abbrev rows-and-counts : (day : Day) (w : Windows) (starts : List ℕ) (o : Outcome)
-    → Test ((o .answer .code ≡ done → (o .count ≡ w .count) × LedgerPromise day w starts (record { answer = says done 0 0; counts = o .counts }))
+    → Test ((o .answer .code ≡ done → (o .count ≡ w .count) × Ledgered (ListCheck day w) day w starts (record { answer = says done 0 0; counts = o .counts }))
     × ((o .answer .code ≡ done → ⊥) → o ≡ no-outcome (o .answer)))
 rows-and-counts day w starts o =
     by-equal (o .answer .code) done
     (both (equal (o .count) (w .count)) (ledger-test day w starts (record { answer = says done 0 0; counts = o .counts })))
     (through (λ t. nothing-planned o (t .0) (t .1)) (both (equal (o .count) 0) (same-counts (o .counts) no-counts)))
 
-abbrev reported : (file starts table : List ℕ) (o : Outcome) (starts-after table-after : List ℕ)
-    → Test (FileReported file starts table o starts-after table-after)
-reported file starts table o starts-after table-after =
+abbrev reported : {Check : Answer → Type 0} → Judge Check → (day : Day) (w : Windows) (starts table : List ℕ) (o : Outcome) (starts-after table-after : List ℕ)
+    → Test (ListReported Check day w starts table o starts-after table-after)
+reported judge day w starts table o starts-after table-after =
     through (λ t. record { plan = t .0; count = λ e. t .1 .0 e .0; counts = λ e. t .1 .0 e .1; refused = t .1 .1 })
-    (both
-    (planned (judge-file file starts table) (need (day-of file .slots) (windows-of file .count)) (day-of file) (windows-of file) starts table
-    (o .answer) starts-after table-after)
-    (rows-and-counts (day-of file) (windows-of file) starts-after o))
+    (both (planned judge (need (day .slots) (w .count)) day w starts table (o .answer) starts-after table-after)
+    (rows-and-counts day w starts-after o))
 
 abbrev report-test : (p : FilePlan) (after : Outcome × List ℕ × List ℕ) → Test (ReportsTo p after)
-report-test p after = reported (p .file) (p .starts) (p .table) (after .0) (after .1) (after .2)
+report-test p after =
+    reported (judge-file (p .file) (p .starts) (p .table)) (file-day (p .file)) (file-windows (p .file)) (p .starts) (p .table) (after .0) (after .1)
+    (after .2)
 
 pub reported-examples-hold : ReportedExamplesHold
-unfolding reported-examples number-at column listed need zeroed best-test no-plan-test cost price total gaps gaps-since ended taken gain holds-job row-at asleep
+unfolding reported-examples number-at number-in-row listed need zeroed best-test no-plan-test cost price total gaps gaps-since ended taken gain holds-job row-at asleep
 reported-examples-hold =
     all-in (shown-test (λ p. one-outcome .plan-file (p .file) (p .starts) (p .table)) report-test) reported-examples .shows refl
 
@@ -216,7 +206,9 @@ print-test planning =
     shown-test (λ lent. one-outcome .report (lent .0) (replicate (lent .1) 0))
     (λ lent after.
     through (λ t. record { outcome = planning .0; starts = planning .1; reported = t .0; prints = t .1 })
-    (both (reported (lent .0) (replicate most-jobs 0) (replicate (lent .1) 0) (planning .0) (planning .1) (after .1))
+    (both
+    (reported (judge-input (lent .0) (replicate most-jobs 0) (replicate (lent .1) 0)) (file-day (lent .0)) (file-windows (lent .0))
+    (replicate most-jobs 0) (replicate (lent .1) 0) (planning .0) (planning .1) (after .1))
     (printed (lines (planning .0 .answer) (planning .0 .count) (at (planning .1)) (planning .0 .counts)) (after .0))))
 
 abbrev refusal : ℕ → ℕ → Planning
@@ -231,8 +223,9 @@ plannings =
     ∷ refusal 4 1
     ∷ refusal 8 0
     ∷ refusal 17 0
+    ∷ refusal 9 0
     ∷ []
 
 pub printed-examples-hold : PrintedExamplesHold
-unfolding printed-examples plannings bytes-in lines plan-line row-line row-lines slots-line spaced decimal digits number-at column listed need zeroed best-test no-plan-test cost price total gaps gaps-since ended taken gain holds-job row-at asleep
+unfolding printed-examples plannings bytes-in lines plan-line row-line row-lines slots-line spaced decimal digits number-at number-in-row listed need zeroed best-test no-plan-test cost price total gaps gaps-since ended taken gain holds-job row-at asleep
 printed-examples-hold = all-with print-test plannings printed-examples .shows refl

@@ -10,7 +10,7 @@ use Rattle.day.specs.declared.Day.{Day}
 use Rattle.day.specs.declared.Power.{Power}
 use Rattle.day.specs.Windows.{Windows}
 use Rattle.day.specs.Gap.{asleep}
-use Rattle.day.specs.Answer.{done}
+use Rattle.checks.specs.Answer.{done}
 use Rattle.claim.specs.Rows.{row-at, holds-job}
 use Rattle.rule.specs.Extreme.{latest}
 use Rattle.ledger.specs.declared.Fill.{Fill}
@@ -20,10 +20,10 @@ use Rattle.ledger.specs.declared.LedgerAnswer.{LedgerAnswer}
 use Rattle.ledger.specs.declared.SlotFill.{SlotFill}
 use Rattle.ledger.specs.declared.SlotAnswer.{SlotAnswer}
 use Rattle.ledger.specs.Fills.{Empty, InGap, Fills, by-job, before-first, after-last, in-awake, in-asleep}
-use Rattle.ledger.specs.Count.{none, column, CountedTo, Counted}
+use Rattle.ledger.specs.Count.{counted-none, counted-as, Counted}
 use Rattle.ledger.specs.Promise.{plan-row, no-counts, no-slot, LedgerPromise}
 use Rattle.ledger.proofs.InGap.{in-gap}
-use Rattle.ledger.proofs.Column.{gain, counted-block}
+use Rattle.ledger.proofs.CountedAs.{gain, CountedTo, counted-to-end, counted-block}
 use Rattle.demands.specs.ExamplesOfLedger.{ledger-examples, LedgerExamplesHold, Asked, FilledAs, slot-examples, SlotExamplesHold}
 use Rattle.demands.proofs.Test.{
   Test,
@@ -43,7 +43,7 @@ use Rattle.demands.proofs.Test.{
   all-below,
   all-in,
 }
-use Rattle.demands.proofs.ExamplesChecked.{shown-test, answers, judge-whole, none-left}
+use Rattle.demands.proofs.ExamplesChecked.{shown-test, answers, judge-whole, passed}
 use Rattle.demands.proofs.ExamplesOfClaims.{judge-claim}
 use Rattle.demands.proofs.OneOutcome.{one-outcome}
 
@@ -109,10 +109,10 @@ module _ (power : Power) (slots : ℕ) (row : ℕ → ℕ) where
       (both (less (last-job row t) t) (both (differ (row (last-job row t)) 0) (empty-between (last-job row t) slots)))
 
   module _ (fill : ℕ → Fill) where
-    -- how many of the slots below m are counted in column k
+    -- how many of the slots below m belong to count k
     abbrev tally-in : ℕ → ℕ → ℕ
     tally-in k zero = 0
-    tally-in k (suc m) = tally-in k m + gain k (column (fill m)) 1
+    tally-in k (suc m) = tally-in k m + gain k (counted-as (fill m)) 1
 
     abbrev tally : ℕ → Counts
     tally m =
@@ -120,9 +120,9 @@ module _ (power : Power) (slots : ℕ) (row : ℕ → ℕ) where
 
     pub tally-counts : ((t : ℕ) → t < slots → Fills power slots row t (fill t)) → (m : ℕ) → m ≤ slots
         → CountedTo power slots row m (tally m)
-    tally-counts right zero l = record { before = none; job = none; awake = none; asleep = none; after = none }
+    tally-counts right zero l = record { before = counted-none; job = counted-none; awake = counted-none; asleep = counted-none; after = counted-none }
     tally-counts right (suc m) l =
-        counted-block (column (fill m)) 1 (suc m) (omega arith) l
+        counted-block (counted-as (fill m)) 1 (suc m) (omega arith) l
         (λ u h b. let here : u ≡ m = omega arith in rw here (record { fill = fill m; fills = right m (omega arith); here = refl }))
         (tally-counts right m (omega arith)) refl refl refl refl refl
 
@@ -135,14 +135,14 @@ same-counts c d =
 
 abbrev counted : (power : Power) (slots : ℕ) (row : ℕ → ℕ) (c : Counts) → Test (Counted power slots row c)
 counted power slots row c =
-    through (λ f. rw (f .1) (tally-counts power slots row (fill-at power slots row) (f .0) slots (omega arith)))
+    through (λ f. rw (f .1) (counted-to-end (tally-counts power slots row (fill-at power slots row) (f .0) slots (omega arith))))
     (both (all-below (λ t. fills power slots row t (fill-at power slots row t)) slots)
     (same-counts c (tally power slots row (fill-at power slots row) slots)))
 
 abbrev pub ledger-test : (day : Day) (w : Windows) (starts : List ℕ) (answered : LedgerAnswer) → Test (LedgerPromise day w starts answered)
 ledger-test day w starts answered =
     through (λ f. record { answer = f .0; accepted = f .1 .0; refused = f .1 .1 })
-    (both (answers (judge-claim day w starts) (none-left .answer) (answered .answer))
+    (both (answers (judge-claim day w starts) passed (answered .answer))
     (by-equal (answered .answer .code) done (counted (day .power) (day .slots) (plan-row w starts) (answered .counts))
     (same-counts (answered .counts) no-counts)))
 
@@ -170,7 +170,7 @@ slot-test asked shown =
     through (λ f. record { answer = f .0; slot = λ e. f .1 .0 e .0; fill = λ e. f .1 .0 e .1; refused = f .1 .1 })
     (both
     (answers (judge-claim (asked .claim .day) (asked .claim .rows) (asked .claim .starts))
-    (answers (judge-whole _ (is-at-most (asked .claim .day .slots) (asked .slot))) (none-left .answer)) (shown .answer))
+    (answers (judge-whole _ (is-at-most (asked .claim .day .slots) (asked .slot))) passed) (shown .answer))
     (by-equal (shown .answer .code) done
     (both (equal (shown .held .slot) (asked .slot))
     (fills (asked .claim .day .power) (asked .claim .day .slots) (plan-row (asked .claim .rows) (asked .claim .starts)) (asked .slot) (shown .held .fill)))

@@ -1,16 +1,15 @@
 -- The examples of moving a list hold: each row's outcome is tested. Assumes nothing.
-use Prim.Native.Nat.{ℕ, _<_}
+use Prim.Native.Nat.{ℕ}
 use mathlib.Core.Path.{_≡_, refl, ap}
 use mathlib.Core.List.{List}
 use lib.ListN.{length}
 use lib.IntN.{ℤ, pos, negsuc, _+ℤ_}
 use lib.Signed.{ltZ, _<ℤ_}
-use Rattle.day.specs.declared.Answer.{Answer}
+use Rattle.checks.specs.declared.Answer.{Answer}
 use Rattle.day.specs.Windows.{Windows, windows, at}
-use Rattle.day.specs.Change.{Shifts}
-use Rattle.day.specs.Answer.{done}
-use Rattle.day.specs.Check.{TimesCheck}
-use Rattle.moving.specs.Moving.{LeavesDay, MoveCheck, RowsMoved, MovePromise}
+use Rattle.checks.specs.Answer.{done}
+use Rattle.checks.specs.Check.{TimesCheck}
+use Rattle.moving.specs.Moving.{LeavesDay, MoveCheck, FirstMoved, RowsMoved, MovePromise}
 use Rattle.moving.proofs.Signs.{below, not-below}
 use Rattle.demands.specs.ExamplesTable.{releases-of, deadlines-of}
 use Rattle.demands.specs.ExamplesOfMoving.{Move, MovesTo, moved-examples, MovedExamplesHold}
@@ -24,12 +23,11 @@ use Rattle.demands.proofs.Test.{
   by-equal,
   BothWays,
   is-either,
-  all-below,
   same-numbers,
-  same-from,
+  first-filled,
   all-in,
 }
-use Rattle.demands.proofs.ExamplesChecked.{shown-test, Judge, answers, judge-then, judge-row, none-left, judge-times}
+use Rattle.demands.proofs.ExamplesChecked.{shown-test, Judge, answers, judge-then, judge-row, passed, judge-times}
 use Rattle.demands.proofs.OneOutcome.{one-outcome}
 
 abbrev is-below : (a b : ℤ) → BothWays (a <ℤ b)
@@ -40,9 +38,8 @@ abbrev is-pos : (z : ℤ) (n : ℕ) → Test (z ≡ pos n)
 is-pos (pos m) n = through (λ e. ap pos e) (equal m n)
 is-pos (negsuc m) n = fails
 
--- each of the first n numbers is moved
-abbrev shifted : (by : ℤ) (n : ℕ) (xs ys : List ℕ) → Test ((i : ℕ) → i < n → Shifts by (at xs i) (at ys i))
-shifted by n xs ys = all-below (λ i. is-pos (pos (at xs i) +ℤ by) (at ys i)) n
+abbrev first-moved : (by : ℤ) (n : ℕ) (xs ys : List ℕ) → Test (FirstMoved by n xs ys)
+first-moved by n xs = first-filled (λ i y. is-pos (pos (at xs i) +ℤ by) y) n xs
 
 abbrev leaves : (slots : ℕ) (by : ℤ) (w : Windows) (i : ℕ) → BothWays (LeavesDay slots by w i)
 leaves slots by w i =
@@ -54,17 +51,14 @@ judge-move slots by w =
 
 abbrev rows-moved : (by : ℤ) (releases deadlines rs ds : List ℕ) → Test (RowsMoved by releases deadlines rs ds)
 rows-moved by releases deadlines rs ds =
-    through
-    (λ f.
-    record { rows = record { count = f .0 .0; release = f .0 .1; deadline = f .1 .0 }; as-long = f .1 .1 .0; surplus = f .1 .1 .1 })
-    (both (both (equal (length rs) (length releases)) (shifted by (length releases) releases rs))
-    (both (shifted by (length releases) deadlines ds) (same-from (length releases) deadlines ds)))
+    through (λ f. record { moved-releases = f .0; moved-deadlines = f .1 })
+    (both (first-moved by (length releases) releases rs) (first-moved by (length releases) deadlines ds))
 
-abbrev moved-list : (slots : ℕ) (by : ℤ) (releases deadlines : List ℕ) (a : Answer) (rs ds : List ℕ)
+abbrev pub moved-list : (slots : ℕ) (by : ℤ) (releases deadlines : List ℕ) (a : Answer) (rs ds : List ℕ)
     → Test (MovePromise slots by releases deadlines a rs ds)
 moved-list slots by releases deadlines a rs ds =
     through (λ f. record { answer = f .0; accepted = f .1 .0; refused = f .1 .1 })
-    (both (answers (judge-move slots by (windows releases deadlines)) (none-left .answer) a)
+    (both (answers (judge-move slots by (windows releases deadlines)) passed a)
     (by-equal (a .code) done (rows-moved by releases deadlines rs ds) (both (same-numbers rs releases) (same-numbers ds deadlines))))
 
 abbrev move-test : (move : Move) (after : Answer × List ℕ × List ℕ) → Test (MovesTo move after)

@@ -8,19 +8,19 @@ use lib.ListN.{length, getD, drop, replicate, length-replicate}
 use Rattle.day.specs.declared.Day.{Day}
 use Rattle.day.specs.Windows.{Windows, windows, at}
 use Rattle.day.specs.Plan.{Plan}
-use Rattle.day.specs.Answer.{done}
-use Rattle.day.specs.Check.{Accepted}
+use Rattle.checks.specs.Answer.{done}
+use Rattle.checks.specs.Check.{Accepted}
 use Rattle.day.proofs.Cases.{give}
-use Rattle.day.proofs.Refusal.{code-of, then-next, then-clear}
-use Rattle.day.proofs.Check.{accepted-clear}
+use Rattle.checks.proofs.Refusal.{code-of, then-next, then-clear}
+use Rattle.checks.proofs.Check.{accepted-clear}
 use Rattle.claim.specs.Claim.{Fit}
 use Rattle.claim.proofs.Claim.{fit-clear}
 use Rattle.claim.proofs.Rows.{row-at-none, row-at-here, row-at-other}
 use Rattle.ledger.specs.declared.Counts.{Counts}
 use Rattle.ledger.specs.Promise.{LedgerPromise}
 use Rattle.ledger.proofs.Outer.{before-first-job}
-use Rattle.demands.specs.Run.{Taken}
-use Rattle.demands.specs.Examples.{exactly, Is, Example, Shows, day-of, Each, none, one, examples}
+use Rattle.demands.specs.Run.{Admitted}
+use Rattle.demands.specs.Examples.{exactly, Is, Example, Shows, example, Each, none, one, examples}
 use Rattle.demands.specs.Impostors.{
   Input,
   Planner,
@@ -35,7 +35,7 @@ use Rattle.demands.specs.Impostors.{
   Planless,
   NoImpostor,
 }
-use Rattle.demands.proofs.BestPlan.{answers-taken}
+use Rattle.demands.proofs.BestPlan.{answers-admitted}
 use Rattle.demands.proofs.Computed.{accepted-test}
 use Rattle.demands.proofs.Examples.{examples-hold}
 use Rattle.demands.proofs.WrongPrograms.{always-seven, fixed-plan, no-starts, first-placed, counts-without-plan}
@@ -47,7 +47,7 @@ each-at (one p ps) (suc i) other l = each-at ps i other (omega arith)
 
 -- stands for an example past the table's end
 no-example : Example
-no-example = day-of [] 0 (exactly 0) (exactly 0) 0 0 []
+no-example = example [] 0 (exactly 0) (exactly 0) 0 0 []
 
 example-at : ℕ → Example
 example-at i = getD examples i no-example
@@ -121,11 +121,11 @@ module _ (planner : Planner) (promised : KeepsPromise planner) where
   unfolding swapped example-at examples
   swapped-shown = shown 7 (omega arith) 3 (0 ∷ 0 ∷ []) 243 refl (omega arith) (omega arith)
 
-  taken : (input : Input) → planner input .0 .code ≡ done → Taken (run-of planner input)
-  taken input code = answers-taken (run-of planner input) (promised input) (inl code)
+  admitted : (input : Input) → planner input .0 .code ≡ done → Admitted (run-of planner input)
+  admitted input code = answers-admitted (run-of planner input) (promised input) (inl code)
 
   not-seven : Does Seven planner → ⊥
-  not-seven seven = omega (arith, alone-shown .0, seven alone (taken alone (alone-shown .0)))
+  not-seven seven = omega (arith, alone-shown .0, seven alone (admitted alone (alone-shown .0)))
 
   not-fixed : (plan : Plan) → Does (Fixed plan) planner → ⊥
   unfolding rows swapped example-at examples input-of
@@ -134,14 +134,14 @@ module _ (planner : Planner) (promised : KeepsPromise planner) where
         arith,
         ap (λ xs. at xs 0) (rows-shown .1),
         ap (λ xs. at xs 0) (swapped-shown .1),
-        fixed rows (taken rows (rows-shown .0)) (rows-shown .0) 0 (omega arith),
-        fixed swapped (taken swapped (swapped-shown .0)) (swapped-shown .0) 0 (omega arith),
+        fixed rows (admitted rows (rows-shown .0)) (rows-shown .0) 0 (omega arith),
+        fixed swapped (admitted swapped (swapped-shown .0)) (swapped-shown .0) 0 (omega arith),
       )
 
   not-writeless : Does Writeless planner → ⊥
   unfolding alone input-of
   not-writeless writeless =
-      omega (arith, ap (λ xs. at xs 0) (sym (alone-shown .1) ∙ writeless alone (taken alone (alone-shown .0))))
+      omega (arith, ap (λ xs. at xs 0) (sym (alone-shown .1) ∙ writeless alone (admitted alone (alone-shown .0))))
 
   -- the second row of two whose first starts at 0 starts at 1, or at 4
   not-invented : (invent : ℕ → ℕ → ℕ) → Does (Invented invent) planner → ⊥
@@ -151,8 +151,8 @@ module _ (planner : Planner) (promised : KeepsPromise planner) where
         arith,
         ap (λ xs. at xs 1) (equals-shown .1),
         ap (λ xs. at xs 1) (fixed-shown .1),
-        invented equals (taken equals (equals-shown .0)) (equals-shown .0) 1 (omega arith) (omega arith),
-        invented fixed-rows (taken fixed-rows (fixed-shown .0)) (fixed-shown .0) 1 (omega arith) (omega arith),
+        invented equals (admitted equals (equals-shown .0)) (equals-shown .0) 1 (omega arith) (omega arith),
+        invented fixed-rows (admitted fixed-rows (fixed-shown .0)) (fixed-shown .0) 1 (omega arith) (omega arith),
         ap (λ xs. invent 1 (at xs 0)) (equals-shown .1),
         ap (λ xs. invent 1 (at xs 0)) (fixed-shown .1),
       )

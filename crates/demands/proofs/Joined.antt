@@ -7,10 +7,10 @@ use native.Mathlib.Omega.{arith}
 use lib.ListN.{length, length-append, List·getD-append}
 use lib.Seq.{getD-append-add}
 use Rattle.day.specs.Windows.{Windows, at}
-use Rattle.day.specs.Change.{beside}
-use Rattle.day.specs.Check.{Accepted}
+use Rattle.day.specs.Joined.{beside}
+use Rattle.checks.specs.Check.{Accepted}
 use Rattle.day.proofs.Cases.{give}
-use Rattle.day.proofs.Joined.{on-row, beside-first, beside-after}
+use Rattle.day.proofs.Joined.{on-row, beside-first, beside-following}
 use Rattle.demands.specs.Run.{Run, list}
 use Rattle.demands.specs.SideBySide.{Joins, AppendedJoined, JoinedAccepted}
 use Rattle.demands.proofs.BestPlan.{accepted-too}
@@ -20,7 +20,7 @@ pub append-beside : (xs ys : List ℕ) (n i : ℕ) → length xs ≡ n → at (x
 append-beside xs ys n i long =
     on-row (λ i. at (xs ++ ys) i ≡ beside n (at xs) (at ys) i) n (i + 1) i (omega arith)
     (λ j l. List·getD-append xs ys 0 j (omega arith) ∙ sym (beside-first n (at xs) (at ys) j l))
-    (λ k l. ap (λ x. at (xs ++ ys) (x + k)) (sym long) ∙ getD-append-add xs ys k 0 ∙ sym (beside-after n (at xs) (at ys) k))
+    (λ k l. ap (λ x. at (xs ++ ys) (x + k)) (sym long) ∙ getD-append-add xs ys k 0 ∙ sym (beside-following n (at xs) (at ys) k))
 
 pub appended-joined : AppendedJoined
 appended-joined releases deadlines more-releases more-deadlines long =
@@ -45,9 +45,9 @@ module _ (g : ℕ) (first second whole : Run) (joins : Joins g first second whol
       × (list whole .deadline (list first .count + k) ≡ list second .deadline k)
   second-row k l = (
     sym (joins .rows .release (list first .count + k) (omega arith))
-        ∙ beside-after (list first .count) (list first .release) (list second .release) k,
+        ∙ beside-following (list first .count) (list first .release) (list second .release) k,
     sym (joins .rows .deadline (list first .count + k) (omega arith))
-        ∙ beside-after (list first .count) (list first .deadline) (list second .deadline) k,
+        ∙ beside-following (list first .count) (list first .deadline) (list second .deadline) k,
   )
 
   -- a list whose rows are rows of the whole is accepted with it

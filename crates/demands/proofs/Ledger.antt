@@ -3,26 +3,26 @@ use Prim.Native.Nat.{ℕ, _<_}
 use mathlib.Core.Path.{_≡_, sym, _∙_}
 use mathlib.Core.List.{List}
 use native.Mathlib.Omega.{arith}
-use Rattle.day.specs.declared.Answer.{Answer}
+use Rattle.checks.specs.declared.Answer.{Answer}
 use Rattle.day.specs.declared.Day.{Day}
 use Rattle.day.specs.Windows.{Windows, at}
-use Rattle.day.specs.Answer.{done}
-use Rattle.day.specs.Refusal.{_then_}
-use Rattle.day.specs.Check.{ListCheck, Accepted}
+use Rattle.checks.specs.Answer.{done}
+use Rattle.checks.specs.Refusal.{_then_}
+use Rattle.checks.specs.Check.{ListCheck, Accepted}
 use Rattle.day.proofs.Cases.{give}
 use Rattle.day.proofs.Plan.{Taker, taken-true}
-use Rattle.day.proofs.Refusal.{passed-clear, clear-first, clear-next}
-use Rattle.day.proofs.Check.{list-is-check, clear-accepted}
+use Rattle.checks.proofs.Refusal.{passed-clear, clear-first, clear-next}
+use Rattle.checks.proofs.Check.{list-is-check, clear-accepted}
 use Rattle.claim.specs.Claim.{Fit, ClaimCheck}
 use Rattle.claim.proofs.Claim.{claim-is-check, clear-fit, fit-below}
 use Rattle.claim.proofs.Rows.{row-at-own, row-at-taken, holds-job-true}
 use Rattle.ledger.specs.Fills.{Busy}
 use Rattle.ledger.specs.Promise.{plan-row}
-use Rattle.ledger.proofs.Column.{five-add-up}
+use Rattle.ledger.proofs.CountedAs.{five-add-up}
 use Rattle.ledger.proofs.Cost.{cost-of-ledger}
 use Rattle.ledger.proofs.Fills.{not-busy, fills-unique}
 use Rattle.ledger.proofs.Outer.{before-first-job, after-last-job, no-jobs}
-use Rattle.ledger.proofs.Promise.{row-fills}
+use Rattle.ledger.proofs.Fills.{row-fills}
 use Rattle.demands.specs.Ledger.{LedgerBalances, LedgerOuter, RowShown}
 
 pub ledger-balances : LedgerBalances

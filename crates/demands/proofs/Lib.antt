@@ -1,4 +1,5 @@
--- The proofs of the demands, each under the name of its statement in specs/. Test, ExamplesChecked and Computed are the examples' computed tests.
+-- The proofs of the demands, most under the name of their statement in specs/. Test, ExamplesChecked and Computed are the examples' computed
+-- tests, and Instances has runs that meet what the theorems ask.
 pub mod BestPlan
 pub mod DayFile
 pub mod Gaps
@@ -17,6 +18,7 @@ pub mod ExamplesOfClaims
 pub mod ExamplesOfLedger
 pub mod ExamplesOfMoving
 pub mod ExamplesOfFiles
+pub mod Instances
 pub mod OneOutcome
 pub mod WrongPrograms
 pub mod Impostors

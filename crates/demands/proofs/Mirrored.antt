@@ -5,9 +5,9 @@ use mathlib.Core.Logic.{inl, inr}
 use native.Mathlib.Omega.{arith}
 use Rattle.day.specs.Windows.{SameRows, at}
 use Rattle.day.specs.Gap.{cost}
-use Rattle.day.specs.Answer.{says, done}
-use Rattle.day.specs.Change.{mirrored}
-use Rattle.day.specs.Check.{Accepted}
+use Rattle.checks.specs.Answer.{says, done}
+use Rattle.day.specs.Mirrored.{mirrored}
+use Rattle.checks.specs.Check.{Accepted}
 use Rattle.day.proofs.Cases.{give}
 use Rattle.day.proofs.Plan.{same-rows-turned, no-plan-cong}
 use Rattle.day.proofs.Best.{best-cong}
@@ -42,17 +42,17 @@ module _ (run other : Run) (mirrors : Mirrors run other) (old : Served run) wher
       d .answer
       ∙ ap (λ n. says done (cost (run .day) n (at (other .starts-after))) 0) (mirrors .rows .count)
       ∙ ap (λ x. says done x 0)
-      (mirrored-best-cost (run .day) (list run) (old .taken .accepted .rows .window) (old .taken .accepted .rows .in-day)
+      (mirrored-best-cost (run .day) (list run) (old .admitted .accepted .rows .window) (old .admitted .accepted .rows .in-day)
       (at (run .starts-after)) (at (other .starts-after)) (b .best)
       (best-cong (run .day) (list other) (mirrored (run .day .slots) (list run)) (at (other .starts-after)) (at (other .starts-after))
       alike (λ i l. refl) (d .best)))
       ∙ sym (b .answer))
   same (inl b) (inr n) =
-      absurd (no-plan-mirrored (run .day) (list run) (old .taken .accepted .rows .window) (old .taken .accepted .rows .in-day)
+      absurd (no-plan-mirrored (run .day) (list run) (old .admitted .accepted .rows .window) (old .admitted .accepted .rows .in-day)
       (no-plan-cong (list other) (mirrored (run .day .slots) (list run)) alike (n .none)) (at (run .starts-after)) (b .best .proper))
   same (inr n) (inl c) =
       absurd (no-plan-cong (mirrored (run .day .slots) (list run)) (list other) (mirrors .rows)
-      (mirrored-no-plan (run .day) (list run) (old .taken .accepted .rows .window) (old .taken .accepted .rows .in-day) (n .none))
+      (mirrored-no-plan (run .day) (list run) (old .admitted .accepted .rows .window) (old .admitted .accepted .rows .in-day) (n .none))
       (at (other .starts-after)) (c .best .proper))
   same (inr n) (inr m) = m .answer ∙ sym (n .answer)
 

@@ -5,13 +5,13 @@ use mathlib.Core.Logic.{inl, inr}
 use native.Mathlib.Omega.{arith}
 use lib.IntN.{ℤ}
 use Rattle.day.specs.Windows.{at}
-use Rattle.day.specs.Answer.{says, done}
-use Rattle.day.specs.Change.{Moved}
-use Rattle.day.specs.Check.{Accepted}
+use Rattle.checks.specs.Answer.{says, done}
+use Rattle.day.specs.Moved.{Moved}
+use Rattle.checks.specs.Check.{Accepted}
 use Rattle.day.proofs.Cases.{give}
-use Rattle.day.proofs.Refusal.{code-of}
+use Rattle.checks.proofs.Refusal.{code-of}
 use Rattle.day.proofs.Moved.{moved-no-plan, no-plan-moved, moved-starts, moved-best-cost}
-use Rattle.moving.proofs.Moving.{acceptable}
+use Rattle.moving.proofs.Moving.{acceptable, windows-moved}
 use Rattle.moving.proofs.Unique.{shifts-unique}
 use Rattle.demands.specs.Run.{Run, list, Served}
 use Rattle.demands.specs.BestPlan.{BestOrNone}
@@ -20,7 +20,7 @@ use Rattle.demands.proofs.BestPlan.{accepted-too, best-or-none, given-o
 
 module _ (by : ℤ) (run other : Run) (moves : Moves by run other) where
   moved : Moved by (list run) (list other)
-  moved = moves .promised .accepted (moves .accepted) .rows
+  moved = windows-moved (moves .promised .accepted (moves .accepted))
 
   stays-there : (i : ℕ) → i < list other .count
       → (list other .release i < list other .deadline i) × (list other .deadline i ≤ run .day .slots)
@@ -64,11 +64,11 @@ module _ (by : ℤ) (run other : Run) (moves : Moves by run other) (old : Served
         answer =
             d .answer
             ∙ ap (λ x. says done x 0)
-            (sym (moved-best-cost (run .day) by (list run) (list other) same-rows (old .taken .accepted .rows .in-day) new-in-day
+            (sym (moved-best-cost (run .day) by (list run) (list other) same-rows (old .admitted .accepted .rows .in-day) new-in-day
             (at (run .starts-after)) (at (other .starts-after)) (b .best) (d .best)))
             ∙ sym (b .answer);
         starts = λ code.
-            moved-starts (run .day) by (list run) (list other) same-rows (old .taken .accepted .rows .in-day) new-in-day
+            moved-starts (run .day) by (list run) (list other) same-rows (old .admitted .accepted .rows .in-day) new-in-day
             (at (run .starts-after)) (at (other .starts-after)) (b .best) (d .best);
       })
   keeps (inl b) (inr n) =

@@ -4,14 +4,14 @@ use mathlib.Core.Path.{refl}
 use native.Mathlib.Omega.{arith}
 use lib.IntN.{negsuc}
 use Rattle.day.specs.Windows.{windows, at}
-use Rattle.day.specs.Answer.{says, leaves-day}
-use Rattle.day.specs.Refusal.{stops, goes-on}
+use Rattle.checks.specs.Answer.{says, leaves-day}
+use Rattle.checks.specs.Refusal.{stops, goes-on}
 use Rattle.day.proofs.Cases.{on-le}
-use Rattle.day.proofs.Refusal.{passed-unique}
-use Rattle.day.proofs.Check.{times-is-check, times-avoids, times-clear}
+use Rattle.checks.proofs.Refusal.{passed-unique}
+use Rattle.checks.proofs.Check.{times-is-check, times-avoids, times-clear}
 use Rattle.moving.proofs.Moving.{move-is-check}
 use Rattle.moving.proofs.Ends.{too-early, early-stays, too-late, late-stays, smallest-leaves}
-use Rattle.moving.proofs.Unique.{empty-list-stays, zero-shift-keeps}
+use Rattle.moving.proofs.Ends.{empty-list-stays, zero-shift-keeps}
 use Rattle.demands.specs.Moving.{LeavesAtEnds, MovesAtEnds}
 
 pub leaves-at-ends : LeavesAtEnds

@@ -1,17 +1,17 @@
 -- Two outcomes that satisfy a promise are equal, cited from the crates that make the promises. Assumes nothing.
 use mathlib.Core.Path.{_≡_}
 use Rattle.day.proofs.Cases.{give}
-use Rattle.day.proofs.Refusal.{passed-unique}
-use Rattle.day.proofs.Check.{slots-is-check, power-is-check, jobs-is-check, times-is-check, list-is-check}
-use Rattle.day.proofs.Numbering.{numbering-unique}
-use Rattle.planner.proofs.Promise.{plan-unique}
-use Rattle.claim.proofs.Promise.{judged-unique, priced-unique, chosen-unique, handed-unique, next-unique}
-use Rattle.ledger.proofs.Promise.{ledgered-unique, shown-unique}
+use Rattle.checks.proofs.Refusal.{passed-unique}
+use Rattle.checks.proofs.Check.{slots-is-check, power-is-check, jobs-is-check, times-is-check, list-is-check}
+use Rattle.day.proofs.Unique.{numbering-unique}
+use Rattle.planner.proofs.Unique.{plan-unique}
+use Rattle.claim.proofs.Unique.{judged-unique, priced-unique, chosen-unique, handed-unique, next-unique}
+use Rattle.ledger.proofs.Unique.{ledgered-unique, shown-unique}
 use Rattle.moving.proofs.Unique.{moved-list-unique}
 use Rattle.dayfile.proofs.Unique.{read-unique, written-unique}
 use Rattle.chaskuri.proofs.Unique.{moved-jobs-unique, read-jobs-unique, slot-numbers-unique}
-use Rattle.report.proofs.Lines.{prints-unique}
-use Rattle.report.proofs.Unique.{file-reported-unique, file-printed-unique}
+use Rattle.text.proofs.Unique.{prints-unique}
+use Rattle.report.proofs.Unique.{file-unique, report-unique}
 use Rattle.demands.specs.OneOutcome.{OneOutcome}
 
 both-same : {A B : Type 0} (x y : A × B) → x .0 ≡ y .0 → x .1 ≡ y .1 → x ≡ y
@@ -25,7 +25,7 @@ one-outcome =
     record {
       check-slots = λ limit slots. passed-unique slots-is-check;
       check-power = λ power. passed-unique power-is-check;
-      check-rows = λ limit slots w. passed-unique jobs-is-check;
+      check-jobs = λ limit slots w. passed-unique jobs-is-check;
       check-times = λ slots w. passed-unique times-is-check;
       check-list = λ day w. passed-unique list-is-check;
       number-rows = numbering-unique;
@@ -48,7 +48,7 @@ one-outcome =
       read-jobs = λ file jobs x y p q.
           give (read-jobs-unique file jobs (x .0) (y .0) (x .1) (y .1) p q) (λ s. both-same x y (s .0) (s .1));
       slot-numbers = slot-numbers-unique;
-      plan-file = λ file starts table x y p q. give (file-reported-unique file starts table p q) (λ s. all-same x y (s .0) (s .1) (s .2));
-      report = λ file table x y p q. give (file-printed-unique file table p q) (λ s. both-same x y (s .0) (s .1));
+      plan-file = λ file starts table x y p q. give (file-unique file starts table p q) (λ s. all-same x y (s .0) (s .1) (s .2));
+      report = λ file table x y p q. give (report-unique file table p q) (λ s. both-same x y (s .0) (s .1));
       render = prints-unique;
     }

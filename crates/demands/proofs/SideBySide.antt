@@ -6,18 +6,18 @@ use mathlib.Core.Logic.{inl, inr, ⊎-elim}
 use native.Mathlib.Omega.{arith}
 use lib.ListN.{length, take, length-append}
 use lib.Seq.{length-take-le, getD-take, ext-getD}
-use Rattle.day.specs.declared.Answer.{Answer}
+use Rattle.checks.specs.declared.Answer.{Answer}
 use Rattle.day.specs.declared.Day.{Day}
 use Rattle.day.specs.Windows.{Windows, at}
 use Rattle.day.specs.Plan.{Plan}
 use Rattle.day.specs.Gap.{cost}
-use Rattle.day.specs.Answer.{done}
-use Rattle.day.specs.Change.{beside, joined, joining, Apart}
+use Rattle.checks.specs.Answer.{done}
+use Rattle.day.specs.Joined.{beside, joined, joining, ListsApart}
 use Rattle.day.proofs.Cases.{give}
-use Rattle.day.proofs.Refusal.{code-of}
+use Rattle.checks.proofs.Refusal.{code-of}
 use Rattle.day.proofs.Plan.{same-rows-turned, proper-cong, no-plan-cong}
 use Rattle.day.proofs.Best.{best-cong, best-costs, best-unique}
-use Rattle.day.proofs.Joined.{on-row, beside-first, beside-after}
+use Rattle.day.proofs.Joined.{on-row, beside-first, beside-following}
 use Rattle.day.proofs.JoinedCost.{joining-both, joining-first-empty, joining-second-empty}
 use Rattle.day.proofs.Beside.{apart-by-wake, first-no-plan, second-no-plan, rest-no-plan, beside-proper, beside-best}
 use Rattle.demands.specs.Run.{Run, list, Served}
@@ -46,11 +46,11 @@ take-beside n m xs ys zs h k l f =
     ∙ sym (f i below)
     ∙ on-row (λ i. beside n (at xs) (at ys) i ≡ beside n (at (take n xs)) (at (take m ys)) i) n m i below
     (λ j u. beside-first n (at xs) (at ys) j u ∙ sym (beside-first n (at (take n xs)) (at (take m ys)) j u ∙ getD-take n xs j 0 u))
-    (λ j u. beside-after n (at xs) (at ys) j ∙ sym (beside-after n (at (take n xs)) (at (take m ys)) j ∙ getD-take m ys j 0 u))
+    (λ j u. beside-following n (at xs) (at ys) j ∙ sym (beside-following n (at (take n xs)) (at (take m ys)) j ∙ getD-take m ys j 0 u))
     ∙ sym (append-beside (take n xs) (take m ys) n i (length-take-le n xs h))))
 
 module _ (g : ℕ) (first second whole : Run) (joins : Joins g first second whole) where
-  apart : Apart (first .day .power) g (g + first .day .power .wake) (list first) (list second)
+  apart : ListsApart (first .day .power) g (g + first .day .power .wake) (list first) (list second)
   apart = apart-by-wake (first .day .power) g (list first) (list second) (joins .by-g) (joins .wake-later)
 
   -- the plans that the three runs hold
@@ -69,7 +69,7 @@ module _ (g : ℕ) (first second whole : Run) (joins : Joins g first second whol
 
   module _ (one : Served first) (two : Served second) (all : Served whole) where
     second-in-day : (k : ℕ) → k < list second .count → list second .deadline k ≤ first .day .slots
-    second-in-day k l = omega (arith, ap (λ (d : Day). d .slots) (joins .day), two .taken .accepted .rows .in-day k l)
+    second-in-day k l = omega (arith, ap (λ (d : Day). d .slots) (joins .day), two .admitted .accepted .rows .in-day k l)
 
     -- the best plan of the whole, against the best plans of the two
     record Together : Type 0 where
@@ -120,9 +120,9 @@ module _ (g : ℕ) (first second whole : Run) (joins : Joins g first second whol
           starts =
               ap (λ n. take n (whole .starts-after)) (joins .rows .count)
               ∙ take-beside (list first .count) (list second .count) (first .starts-after) (second .starts-after) (whole .starts-after)
-              (omega (arith, b .long, one .taken .places))
-              (omega (arith, done-best second two y .long, two .taken .places))
-              (omega (arith, d .long, all .taken .places, joins .rows .count))
+              (omega (arith, b .long, one .admitted .room))
+              (omega (arith, done-best second two y .long, two .admitted .room))
+              (omega (arith, d .long, all .admitted .room, joins .rows .count))
               (t .same);
           with-wake = λ h l. omega (arith, t .costs, joining-both (first .day .power) (list first) (list second) h l);
           no-wake =

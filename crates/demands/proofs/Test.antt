@@ -8,8 +8,9 @@ use native.Mathlib.Omega.{arith}
 use lib.Dec.{ltb, leb, eqb}
 use lib.ListN.{length, List·getD-eq-default}
 use borrow.Author.Tests.{ltb-true, leb-true, eqb-true}
-use Rattle.day.specs.declared.Answer.{Answer}
+use Rattle.checks.specs.declared.Answer.{Answer}
 use Rattle.day.specs.Windows.{at}
+use Rattle.day.specs.Changed.{FirstFilled}
 use Rattle.day.proofs.Cases.{on-le, on-eq, not-both, and-left, and-right, or-cases}
 use Rattle.demands.specs.ExamplesTable.{Each, none, one}
 
@@ -151,6 +152,13 @@ same-from n old new =
     through (λ f. (f .0, beyond-both n old new (f .0) (f .1)))
     (both (equal (length new) (length old))
     (all-below {P = λ i. (i < n) ⊎ (at new i ≡ at old i)} (λ i. either (less i n) (equal (at new i) (at old i))) (length old)))
+
+-- and its first n numbers are right
+abbrev pub first-filled : {Right : ℕ → ℕ → Type 0} → ((i y : ℕ) → Test (Right i y)) → (n : ℕ) (old new : List ℕ)
+    → Test (FirstFilled n Right old new)
+first-filled right n old new =
+    through (λ f. record { long = f .0 .0; inside = f .1; outside = λ j out. f .0 .1 j (on-le n j (λ h. h) (λ h. absurd (out j h refl))) })
+    (both (same-from n old new) (all-below (λ i. right i (at new i)) n))
 
 abbrev pub same-answer : (a b : Answer) → Test (a ≡ b)
 same-answer a b =

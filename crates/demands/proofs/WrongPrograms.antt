@@ -9,22 +9,22 @@ use lib.Dec.{eqb}
 use lib.ListN.{length, set, length-set}
 use lib.Seq.{getD-set-same, getD-set-other}
 use borrow.Author.Tests.{ne-eqb}
-use Rattle.day.specs.declared.Answer.{Answer}
+use Rattle.checks.specs.declared.Answer.{Answer}
 use Rattle.day.specs.declared.Day.{Day}
 use Rattle.day.specs.Windows.{Windows, windows, at}
 use Rattle.day.specs.Plan.{Plan}
-use Rattle.day.specs.Answer.{says, done, no-plan}
-use Rattle.day.specs.Check.{ListCheck}
+use Rattle.checks.specs.Answer.{says, done, no-plan}
+use Rattle.checks.specs.Check.{ListCheck}
 use Rattle.day.proofs.Cases.{on-eq}
-use Rattle.day.proofs.Check.{list-is-check}
-use Rattle.day.proofs.Decided.{Decided, list-decided}
+use Rattle.checks.proofs.Check.{list-is-check}
+use Rattle.checks.proofs.Decided.{Decided, list-decided}
 use Rattle.planner.specs.Promise.{PlanCheck}
 use Rattle.planner.proofs.Promise.{plan-is-check, plan-decided}
 use Rattle.claim.specs.Claim.{ClaimCheck}
 use Rattle.claim.proofs.Claim.{claim-is-check, claim-decided}
 use Rattle.ledger.specs.declared.LedgerAnswer.{LedgerAnswer}
 use Rattle.ledger.specs.Promise.{no-counts}
-use Rattle.demands.specs.Run.{Taken}
+use Rattle.demands.specs.Run.{Admitted}
 use Rattle.demands.specs.Impostors.{
   Input,
   Outcome,
@@ -39,7 +39,7 @@ use Rattle.demands.specs.Impostors.{
   Ledger,
   Planless,
 }
-use Rattle.demands.proofs.BestPlan.{taken-clear}
+use Rattle.demands.proofs.BestPlan.{admitted-clear}
 
 abbrev CheckOf : Input → Answer → Type 0
 CheckOf input = PlanCheck (input .day) (windows (input .releases) (input .deadlines)) (input .starts) (input .table)
@@ -66,12 +66,12 @@ checks wrong input b refused = by (decided input)
         (refusal .1) refused)
     by (inr clear) = absurd (clear b refused)
 
-goes-wrong : (wrong : Planner) (input : Input) → Taken (run-of (checked wrong) input) → checked wrong input ≡ wrong input
+goes-wrong : (wrong : Planner) (input : Input) → Admitted (run-of (checked wrong) input) → checked wrong input ≡ wrong input
 unfolding checked checked-by
-goes-wrong wrong input taken = by (decided input)
+goes-wrong wrong input admitted = by (decided input)
   where
     by : (d : Decided (CheckOf input)) → checked-by input (wrong input) d ≡ wrong input
-    by (inl refusal) = absurd (taken-clear (run-of (checked wrong) input) taken (refusal .0) (refusal .1))
+    by (inl refusal) = absurd (admitted-clear (run-of (checked wrong) input) admitted (refusal .0) (refusal .1))
     by (inr clear) = refl
 
 -- a list with the first n places filled
@@ -95,27 +95,27 @@ at-laid plan (suc n) starts room i l =
 lays : (Input → Plan) → Planner
 lays plan input = (says done 0 0, laid (plan input) (length (input .releases)) (input .starts), input .table)
 
-lays-plan : (plan : Input → Plan) (input : Input) → Taken (run-of (checked (lays plan)) input) → (i : ℕ) → i < length (input .releases)
+lays-plan : (plan : Input → Plan) (input : Input) → Admitted (run-of (checked (lays plan)) input) → (i : ℕ) → i < length (input .releases)
     → at (checked (lays plan) input .1) i ≡ plan input i
 unfolding lays
-lays-plan plan input taken i l =
-    rw (goes-wrong (lays plan) input taken) (at-laid (plan input) (length (input .releases)) (input .starts) (taken .places) i l)
+lays-plan plan input admitted i l =
+    rw (goes-wrong (lays plan) input admitted) (at-laid (plan input) (length (input .releases)) (input .starts) (admitted .room) i l)
 
 pub always-seven : (planner : Planner) × Checks planner × Does Seven planner
 always-seven = (
   checked (λ input. (says no-plan 0 0, input .starts, input .table)),
   checks _,
-  λ input taken. ap (λ (o : Outcome). o .0 .code) (goes-wrong _ input taken),
+  λ input admitted. ap (λ (o : Outcome). o .0 .code) (goes-wrong _ input admitted),
 )
 
 pub fixed-plan : (plan : Plan) → (planner : Planner) × Checks planner × Does (Fixed plan) planner
-fixed-plan plan = (checked (lays (λ input. plan)), checks _, λ input taken code i l. lays-plan (λ input. plan) input taken i l)
+fixed-plan plan = (checked (lays (λ input. plan)), checks _, λ input admitted code i l. lays-plan (λ input. plan) input admitted i l)
 
 pub no-starts : (planner : Planner) × Checks planner × Does Writeless planner
 no-starts = (
   checked (λ input. (says done 0 0, input .starts, input .table)),
   checks _,
-  λ input taken. ap (λ (o : Outcome). o .1) (goes-wrong _ input taken),
+  λ input admitted. ap (λ (o : Outcome). o .1) (goes-wrong _ input admitted),
 )
 
 -- the first row in the first slot of its window
@@ -127,10 +127,10 @@ unfolding first-then
 first-placed invent = (
   checked (lays (first-then invent)),
   checks _,
-  λ input taken code i some l.
-      lays-plan (first-then invent) input taken i l
+  λ input admitted code i some l.
+      lays-plan (first-then invent) input admitted i l
       ∙ rw (ne-eqb i 0 (λ e. omega arith))
-      (ap (invent i) (sym (lays-plan (first-then invent) input taken 0 (omega arith)))),
+      (ap (invent i) (sym (lays-plan (first-then invent) input admitted 0 (omega arith)))),
 )
 
 -- the ledger that takes its counts from nowhere

@@ -8,8 +8,8 @@ use Rattle.day.specs.Windows.{at}
 use Rattle.day.specs.Plan.{Plan, NoPlan}
 use Rattle.day.specs.Gap.{cost}
 use Rattle.day.specs.Best.{Best}
-use Rattle.day.specs.Answer.{says, done, no-plan}
-use Rattle.demands.specs.Run.{Run, list, Promised, Taken, Served}
+use Rattle.checks.specs.Answer.{says, done, no-plan}
+use Rattle.demands.specs.Run.{Run, list, Promised, Admitted, Served}
 
 -- code 0 and the cost of the plan that the first starts now hold, which is the best and the only one; the places after it are as they were
 pub record BestGiven (run : Run) : Type 0 where
@@ -29,8 +29,8 @@ abbrev pub BestOrNone : Run → Type 0
 BestOrNone run = BestGiven run ⊎ NoneGiven run
 
 -- 0 and 7 come only where checks 1 to 6 have nothing to refuse
-abbrev pub AnswersTaken : Type 0
-AnswersTaken = (run : Run) → Promised run → (run .answer .code ≡ done) ⊎ (run .answer .code ≡ no-plan) → Taken run
+abbrev pub AnswersAdmitted : Type 0
+AnswersAdmitted = (run : Run) → Promised run → (run .answer .code ≡ done) ⊎ (run .answer .code ≡ no-plan) → Admitted run
 
 -- 7 exactly if there is no proper plan
 pub record SevenExactly (run : Run) : Type 0 where

@@ -3,13 +3,13 @@ use Prim.Native.Nat.{ℕ, _≤_}
 use mathlib.Core.Path.{_≡_}
 use mathlib.Core.List.{List}
 use lib.ListN.{length, take}
-use Rattle.day.specs.declared.Answer.{Answer}
+use Rattle.checks.specs.declared.Answer.{Answer}
 use Rattle.day.specs.declared.Day.{Day}
-use Rattle.day.specs.Answer.{done}
-use Rattle.dayfile.specs.declared.Reading.{Reading}
-use Rattle.dayfile.specs.Reader.{Read}
-use Rattle.dayfile.specs.Writer.{file-length, Written}
-use Rattle.dayfile.specs.ReadBack.{ReadBack}
+use Rattle.checks.specs.Answer.{done}
+use Rattle.dayfile.specs.declared.reader.Reading.{Reading}
+use Rattle.dayfile.specs.Reader.{ReadPromise}
+use Rattle.dayfile.specs.Writer.{file-length, WritePromise}
+use Rattle.dayfile.specs.Recovered.{Recovered}
 
 -- a list is written after the first `notes` bytes of a lent buffer
 pub record Writing : Type 0 where
@@ -24,7 +24,7 @@ pub record Writing : Type 0 where
 
 -- it keeps the writer's promise, and is accepted
 pub record Wrote (w : Writing) : Type 0 where
-  pub promised : Written (w .notes) (w .day) (w .releases) (w .deadlines) (w .buffer) (w .answer) (w .buffer-after)
+  pub promised : WritePromise (w .notes) (w .day) (w .releases) (w .deadlines) (w .buffer) (w .answer) (w .buffer-after)
   pub accepted : w .answer .code ≡ done
 
 -- the file
@@ -38,5 +38,5 @@ ReadsBack =
     → (releases deadlines : List ℕ) (reading : Reading) (releases-after deadlines-after : List ℕ)
     → length (w .releases) ≤ length releases
     → length (w .releases) ≤ length deadlines
-    → Read (file w) releases deadlines reading releases-after deadlines-after
-    → ReadBack (w .day) (w .releases) (w .deadlines) releases deadlines reading releases-after deadlines-after
+    → ReadPromise (file w) releases deadlines reading releases-after deadlines-after
+    → Recovered (w .day) (w .releases) (w .deadlines) releases deadlines reading releases-after deadlines-after

@@ -1,5 +1,5 @@
 -- All that is promised, in one place. Each field is a statement of the file that it comes from.
-use Rattle.demands.specs.BestPlan.{GivesBestOrNone, AnswersTaken, SevenIfNone}
+use Rattle.demands.specs.BestPlan.{GivesBestOrNone, AnswersAdmitted, SevenIfNone}
 use Rattle.demands.specs.DayFile.{ReadsBack}
 use Rattle.demands.specs.Gaps.{GapsListed}
 use Rattle.demands.specs.SideBySide.{AppendedJoined, JoinedAccepted, JoinsSideBySide, JoinsSeven}
@@ -18,7 +18,7 @@ use Rattle.demands.specs.Impostors.{NoImpostor}
 pub record Demands : Type 0 where
   -- demand 2
   pub best-plan : GivesBestOrNone
-  pub checked : AnswersTaken
+  pub checked : AnswersAdmitted
   pub seven : SevenIfNone
   pub gaps : GapsListed
   pub day-file : ReadsBack

@@ -3,12 +3,12 @@ use Prim.Native.Nat.{ℕ, _≤_}
 use mathlib.Core.Path.{_≡_}
 use mathlib.Core.List.{List, [], _∷_, _++_}
 use lib.ListN.{length, replicate, drop}
-use Rattle.day.specs.declared.Answer.{Answer}
+use Rattle.checks.specs.declared.Answer.{Answer}
 use Rattle.day.specs.declared.Day.{Day}
 use Rattle.day.specs.Windows.{Windows}
 use Rattle.planner.specs.Promise.{PlanPromise}
 use Rattle.demands.specs.Run.{Run, Promised}
-use Rattle.demands.specs.ExamplesTable.{answer-of, day-with, releases-of, deadlines-of, rows-of, _gives_, Table}
+use Rattle.demands.specs.ExamplesTable.{answer-of, day-with, releases-of, deadlines-of, list-with, _gives_, Table}
 pub use Rattle.demands.specs.ExamplesTable.{Each, none, one}
 
 -- how much an example says a number is
@@ -48,74 +48,74 @@ pub record Shows (e : Example) (run : Run) : Type 0 where
   pub answer : run .answer ≡ answer-of (e .code) (e .first) 0
   pub starts : run .starts-after ≡ e .starts ++ drop (length (e .starts)) (run .starts)
 
-abbrev pub Holds : Example → Type 0
-Holds e = (run : Run) → Plans e run → Promised run → Shows e run
+abbrev pub ExampleHolds : Example → Type 0
+ExampleHolds e = (run : Run) → Plans e run → Promised run → Shows e run
 
 -- rows, T, L, places, and then code, first number, starts
-abbrev pub day-of : List (ℕ × ℕ) → ℕ → Amount → Amount → ℕ → ℕ → List ℕ → Example
-day-of jobs slots wake places code first starts =
+abbrev pub example : List (ℕ × ℕ) → ℕ → Amount → Amount → ℕ → ℕ → List ℕ → Example
+example jobs slots wake places code first starts =
     record { jobs = jobs; slots = slots; wake = wake; places = places; code = code; first = first; starts = starts }
 
 unfoldable pub examples : List Example
 examples =
     -- P1
-    day-of [] 1 (exactly 5) (at-least 16) 0 0 []
-    ∷ day-of [] 1 (exactly 5) (exactly 15) 6 0 []
+    example [] 1 (exactly 5) (at-least 16) 0 0 []
+    ∷ example [] 1 (exactly 5) (exactly 15) 6 0 []
     -- P2
-    ∷ day-of ((0, 1) ∷ []) 1 (up-to 1000) (at-least 32) 0 0 (0 ∷ [])
+    ∷ example ((0, 1) ∷ []) 1 (up-to 1000) (at-least 32) 0 0 (0 ∷ [])
     -- P3
-    ∷ day-of ((0, 1) ∷ (0, 1) ∷ []) 1 (up-to 1000) (at-least 48) 7 0 []
+    ∷ example ((0, 1) ∷ (0, 1) ∷ []) 1 (up-to 1000) (at-least 48) 7 0 []
     -- P4
-    ∷ day-of ((0, 2) ∷ (0, 2) ∷ []) 2 (exactly 1) (at-least 75) 0 0 (0 ∷ 1 ∷ [])
-    ∷ day-of ((0, 2) ∷ (0, 2) ∷ (0, 2) ∷ []) 2 (up-to 1000) (at-least 100) 7 0 []
+    ∷ example ((0, 2) ∷ (0, 2) ∷ []) 2 (exactly 1) (at-least 75) 0 0 (0 ∷ 1 ∷ [])
+    ∷ example ((0, 2) ∷ (0, 2) ∷ (0, 2) ∷ []) 2 (up-to 1000) (at-least 100) 7 0 []
     -- P5
-    ∷ day-of ((0, 4) ∷ (3, 6) ∷ []) 6 (exactly 3) (at-least 243) 0 0 (3 ∷ 4 ∷ [])
-    ∷ day-of ((3, 6) ∷ (0, 4) ∷ []) 6 (exactly 3) (at-least 243) 0 0 (4 ∷ 3 ∷ [])
+    ∷ example ((0, 4) ∷ (3, 6) ∷ []) 6 (exactly 3) (at-least 243) 0 0 (3 ∷ 4 ∷ [])
+    ∷ example ((3, 6) ∷ (0, 4) ∷ []) 6 (exactly 3) (at-least 243) 0 0 (4 ∷ 3 ∷ [])
     -- P6
-    ∷ day-of ((0, 6) ∷ (4, 6) ∷ []) 6 (exactly 3) (at-least 243) 0 0 (4 ∷ 5 ∷ [])
+    ∷ example ((0, 6) ∷ (4, 6) ∷ []) 6 (exactly 3) (at-least 243) 0 0 (4 ∷ 5 ∷ [])
     -- P7
-    ∷ day-of ((0, 1) ∷ (4, 5) ∷ []) 5 (exactly 0) (at-least 192) 0 0 (0 ∷ 4 ∷ [])
-    ∷ day-of ((0, 1) ∷ (4, 5) ∷ []) 5 (exactly 2) (at-least 192) 0 2 (0 ∷ 4 ∷ [])
-    ∷ day-of ((0, 1) ∷ (4, 5) ∷ []) 5 (exactly 3) (at-least 192) 0 3 (0 ∷ 4 ∷ [])
-    ∷ day-of ((0, 1) ∷ (4, 5) ∷ []) 5 (exactly 4) (at-least 192) 0 3 (0 ∷ 4 ∷ [])
+    ∷ example ((0, 1) ∷ (4, 5) ∷ []) 5 (exactly 0) (at-least 192) 0 0 (0 ∷ 4 ∷ [])
+    ∷ example ((0, 1) ∷ (4, 5) ∷ []) 5 (exactly 2) (at-least 192) 0 2 (0 ∷ 4 ∷ [])
+    ∷ example ((0, 1) ∷ (4, 5) ∷ []) 5 (exactly 3) (at-least 192) 0 3 (0 ∷ 4 ∷ [])
+    ∷ example ((0, 1) ∷ (4, 5) ∷ []) 5 (exactly 4) (at-least 192) 0 3 (0 ∷ 4 ∷ [])
     -- P8
-    ∷ day-of ((0, 1) ∷ (2, 8) ∷ (9, 10) ∷ []) 10 (exactly 3) (at-least 676) 0 4 (0 ∷ 7 ∷ 9 ∷ [])
-    ∷ day-of ((0, 1) ∷ (2, 8) ∷ (9, 10) ∷ []) 10 (exactly 1) (at-least 676) 0 2 (0 ∷ 7 ∷ 9 ∷ [])
+    ∷ example ((0, 1) ∷ (2, 8) ∷ (9, 10) ∷ []) 10 (exactly 3) (at-least 676) 0 4 (0 ∷ 7 ∷ 9 ∷ [])
+    ∷ example ((0, 1) ∷ (2, 8) ∷ (9, 10) ∷ []) 10 (exactly 1) (at-least 676) 0 2 (0 ∷ 7 ∷ 9 ∷ [])
     -- P9, whole and in its two parts
-    ∷ day-of ((0, 2) ∷ (1, 3) ∷ (6, 8) ∷ []) 8 (exactly 3) (at-least 484) 0 3 (1 ∷ 2 ∷ 7 ∷ [])
-    ∷ day-of ((0, 2) ∷ (1, 3) ∷ []) 8 (exactly 3) (at-least 363) 0 0 (1 ∷ 2 ∷ [])
-    ∷ day-of ((6, 8) ∷ []) 8 (exactly 3) (at-least 242) 0 0 (7 ∷ [])
+    ∷ example ((0, 2) ∷ (1, 3) ∷ (6, 8) ∷ []) 8 (exactly 3) (at-least 484) 0 3 (1 ∷ 2 ∷ 7 ∷ [])
+    ∷ example ((0, 2) ∷ (1, 3) ∷ []) 8 (exactly 3) (at-least 363) 0 0 (1 ∷ 2 ∷ [])
+    ∷ example ((6, 8) ∷ []) 8 (exactly 3) (at-least 242) 0 0 (7 ∷ [])
     -- P10
-    ∷ day-of ((0, 2) ∷ (1, 3) ∷ (5, 6) ∷ []) 6 (exactly 3) (at-least 324) 0 2 (1 ∷ 2 ∷ 5 ∷ [])
+    ∷ example ((0, 2) ∷ (1, 3) ∷ (5, 6) ∷ []) 6 (exactly 3) (at-least 324) 0 2 (1 ∷ 2 ∷ 5 ∷ [])
     -- T 96 accepted
-    ∷ day-of [] 96 (exactly 5) (at-least 9801) 0 0 []
+    ∷ example [] 96 (exactly 5) (at-least 9801) 0 0 []
     ∷ []
 
 abbrev pub ExamplesHold : Type 0
-ExamplesHold = Each Holds examples
+ExamplesHold = Each ExampleHolds examples
 
 -- what is planned, and the starts and the work table that are lent
-pub record Lent : Type 0 where
+pub record PlanInput : Type 0 where
   pub day : Day
   pub rows : Windows
   pub starts : List ℕ
   pub table : List ℕ
 
 -- rows, T, L, and how many places there are for starts and in the work table; each holds 9
-abbrev pub plan-of : List (ℕ × ℕ) → ℕ → ℕ → ℕ → ℕ → Lent
+abbrev pub plan-of : List (ℕ × ℕ) → ℕ → ℕ → ℕ → ℕ → PlanInput
 plan-of jobs slots wake room places =
-    record { day = day-with slots wake; rows = rows-of jobs; starts = replicate room 9; table = replicate places 9 }
+    record { day = day-with slots wake; rows = list-with jobs; starts = replicate room 9; table = replicate places 9 }
 
 -- the answer, with starts and table afterwards
-abbrev pub PlansTo : Lent → Answer × List ℕ × List ℕ → Type 0
+abbrev pub PlansTo : PlanInput → Answer × List ℕ × List ℕ → Type 0
 PlansTo lent after = PlanPromise (lent .day) (lent .rows) (lent .starts) (lent .table) (after .0) (after .1) (after .2)
 
 -- a refusal with code and first number leaves both lists as they were
-abbrev pub refused-by : Lent → ℕ → ℕ → Lent × (Answer × List ℕ × List ℕ)
+abbrev pub refused-by : PlanInput → ℕ → ℕ → PlanInput × (Answer × List ℕ × List ℕ)
 refused-by lent code first = lent gives (answer-of code first 0, lent .starts, lent .table)
 
 -- what the planner refuses
-unfoldable pub refused-plans : List (Lent × (Answer × List ℕ × List ℕ))
+unfoldable pub refused-plans : List (PlanInput × (Answer × List ℕ × List ℕ))
 refused-plans =
     -- T 0 and T 97, and also where L is too large
     refused-by (plan-of [] 0 5 0 9) 1 0

@@ -2,12 +2,12 @@
 use Prim.Native.Nat.{ℕ, zero, suc}
 use mathlib.Core.List.{List, [], _∷_, _++_}
 use lib.ListN.{replicate}
-use Rattle.day.specs.declared.Answer.{Answer}
+use Rattle.checks.specs.declared.Answer.{Answer}
 use Rattle.day.specs.declared.Day.{Day}
 use Rattle.day.specs.Windows.{Windows}
 use Rattle.claim.specs.Claim.{PricePromise}
 use Rattle.claim.specs.Choice.{ChoicePromise}
-use Rattle.demands.specs.ExamplesTable.{answer-of, _gives_, Table, day-with, rows-of, P8}
+use Rattle.demands.specs.ExamplesTable.{answer-of, _gives_, Table, day-with, list-with, P8}
 
 pub record Claim : Type 0 where
   pub day : Day
@@ -16,7 +16,7 @@ pub record Claim : Type 0 where
 
 -- rows, T, L, and the claimed starts
 abbrev pub claim-of : List (ℕ × ℕ) → ℕ → ℕ → List ℕ → Claim
-claim-of jobs slots wake starts = record { day = day-with slots wake; rows = rows-of jobs; starts = starts }
+claim-of jobs slots wake starts = record { day = day-with slots wake; rows = list-with jobs; starts = starts }
 
 abbrev pub CostsAs : Claim → Answer → Type 0
 CostsAs claim = PricePromise (claim .day) (claim .rows) (claim .starts)
@@ -80,7 +80,7 @@ pub record TwoPlans : Type 0 where
 -- rows, T, L, the notebook's own starts and the server's
 abbrev pub two-plans : List (ℕ × ℕ) → ℕ → ℕ → List ℕ → List ℕ → TwoPlans
 two-plans jobs slots wake own server =
-    record { day = day-with slots wake; rows = rows-of jobs; own = own; server = server }
+    record { day = day-with slots wake; rows = list-with jobs; own = own; server = server }
 
 -- what the companion answers
 abbrev pub ChosenAs : TwoPlans → Answer → Type 0

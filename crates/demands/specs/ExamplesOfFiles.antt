@@ -4,14 +4,14 @@ use Prim.Native.Char.{code}
 use Prim.Native.String.{String, [] as no-text, _∷_ as _and-text_}
 use mathlib.Core.List.{List, [], _∷_, _++_}
 use lib.ListN.{length, drop, replicate}
-use Rattle.day.specs.declared.Answer.{Answer}
+use Rattle.checks.specs.declared.Answer.{Answer}
 use Rattle.day.specs.declared.Day.{Day}
-use Rattle.dayfile.specs.declared.Reading.{Reading}
-use Rattle.dayfile.specs.Reader.{Read}
-use Rattle.dayfile.specs.Writer.{Written}
+use Rattle.dayfile.specs.declared.reader.Reading.{Reading}
+use Rattle.dayfile.specs.Reader.{ReadPromise}
+use Rattle.dayfile.specs.Writer.{WritePromise}
 use Rattle.report.specs.declared.Outcome.{Outcome}
-use Rattle.report.specs.declared.text.Text.{Text}
-use Rattle.report.specs.File.{FileReported, FilePrinted}
+use Rattle.text.specs.declared.Text.{Text}
+use Rattle.report.specs.File.{FilePromise, ReportPromise}
 use Rattle.demands.specs.ExamplesTable.{answer-of, _gives_, Table, day-with, releases-of, deadlines-of, P8}
 use Rattle.demands.specs.ExamplesOfLedger.{counts-of}
 
@@ -40,7 +40,7 @@ read-of file jobs = record { file = file; jobs = jobs }
 
 -- what is read, with releases and deadlines afterwards
 abbrev pub ReadsTo : FileRead → Reading × List ℕ × List ℕ → Type 0
-ReadsTo r after = Read (r .file) (releases-of (r .jobs)) (deadlines-of (r .jobs)) (after .0) (after .1) (after .2)
+ReadsTo r after = ReadPromise (r .file) (releases-of (r .jobs)) (deadlines-of (r .jobs)) (after .0) (after .1) (after .2)
 
 -- n, T, L, and the rows afterwards
 abbrev pub says-rows : ℕ → ℕ → ℕ → List (ℕ × ℕ) → Reading × List ℕ × List ℕ
@@ -96,7 +96,7 @@ written-of notes jobs slots wake buffer = record { notes = notes; jobs = jobs; d
 -- the answer, with the buffer afterwards
 abbrev pub WritesTo : FileWritten → Answer × List ℕ → Type 0
 WritesTo w after =
-    Written (w .notes) (w .day) (releases-of (w .jobs)) (deadlines-of (w .jobs)) (w .buffer) (after .0) (after .1)
+    WritePromise (w .notes) (w .day) (releases-of (w .jobs)) (deadlines-of (w .jobs)) (w .buffer) (after .0) (after .1)
 
 unfoldable pub written-examples : List (FileWritten × (Answer × List ℕ))
 written-examples =
@@ -127,7 +127,7 @@ file-plan file starts table = record { file = file; starts = starts; table = tab
 
 -- what planning the file gives, with starts and table afterwards
 abbrev pub ReportsTo : FilePlan → Outcome × List ℕ × List ℕ → Type 0
-ReportsTo p after = FileReported (p .file) (p .starts) (p .table) (after .0) (after .1) (after .2)
+ReportsTo p after = FilePromise (p .file) (p .starts) (p .table) (after .0) (after .1) (after .2)
 
 -- a refusal has no rows and no counts, and leaves both lists as they were
 abbrev pub unplanned : List ℕ → List ℕ → List ℕ → ℕ → FilePlan × (Outcome × List ℕ × List ℕ)
@@ -144,11 +144,9 @@ reported-examples =
       0 ∷ 7 ∷ 9 ∷ 9 ∷ [],
       replicate 676 0 ++ (9 ∷ []),
     )
-    -- 4,097 bytes come before all others; 4,096 are not too many, and their mark is wrong
-    ∷ unplanned (replicate 4097 0) [] [] 17
-    ∷ unplanned (replicate 4096 0) [] [] 9
-    -- then the reader's codes, then the planner's
+    -- the reader's codes, then the planner's; a file may have any length
     ∷ unplanned [] [] [] 8
+    ∷ unplanned (replicate 4097 0) [] [] 9
     ∷ unplanned (0 ∷ 0 ∷ 97 ∷ 0 ∷ 5 ∷ 0 ∷ 10 ∷ 0 ∷ 80 ∷ 76 ∷ []) [] [] 1
     ∷ unplanned P1-file [] (replicate 15 9) 6
     -- P3: no plan, and the table set to zero
@@ -174,7 +172,7 @@ text-of text = record { bytes = bytes-in text ++ replicate (512 - length (bytes-
 
 -- the text for a file that is planned in a table of so many places, each 0, and the table afterwards
 abbrev pub PrintsAs : List ℕ × ℕ → Text × List ℕ → Type 0
-PrintsAs lent after = FilePrinted (lent .0) (replicate (lent .1) 0) (after .0) (after .1)
+PrintsAs lent after = ReportPromise (lent .0) (replicate (lent .1) 0) (after .0) (after .1)
 
 -- a file, the places of the table, and what is printed; the table is zero again
 abbrev pub prints : List ℕ → ℕ → String → (List ℕ × ℕ) × (Text × List ℕ)
@@ -190,7 +188,9 @@ printed-examples =
     ∷ prints P3-file 48 "plan 7 0\n"
     ∷ prints (0 ∷ 0 ∷ 7 ∷ 0 ∷ 1 ∷ 0 ∷ 6 ∷ 0 ∷ 5 ∷ 0 ∷ 14 ∷ 0 ∷ 80 ∷ 76 ∷ []) 162 "plan 4 1\n"
     ∷ prints [] 16 "plan 8 0\n"
+    -- 4,097 bytes come before all others; 4,096 are not too many, and their mark is wrong
     ∷ prints (replicate 4097 0) 16 "plan 17 0\n"
+    ∷ prints (replicate 4096 0) 16 "plan 9 0\n"
     ∷ []
 
 abbrev pub PrintedExamplesHold : Type 0

@@ -3,7 +3,7 @@ use Prim.Native.Nat.{ℕ}
 use mathlib.Core.List.{List, [], _∷_}
 use lib.ListN.{replicate}
 use lib.IntN.{ℤ, pos, negℤ}
-use Rattle.day.specs.declared.Answer.{Answer}
+use Rattle.checks.specs.declared.Answer.{Answer}
 use Rattle.moving.specs.Moving.{MovePromise}
 use Rattle.demands.specs.ExamplesTable.{answer-of, _gives_, Table, releases-of, deadlines-of}
 

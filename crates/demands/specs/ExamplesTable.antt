@@ -2,7 +2,7 @@
 use Prim.Native.Nat.{ℕ}
 use mathlib.Core.Path.{_≡_}
 use mathlib.Core.List.{List, [], _∷_, map}
-use Rattle.day.specs.declared.Answer.{Answer}
+use Rattle.checks.specs.declared.Answer.{Answer}
 use Rattle.day.specs.declared.Day.{Day}
 use Rattle.day.specs.Windows.{Windows, windows}
 
@@ -38,8 +38,8 @@ releases-of = map (λ j. j .0)
 abbrev pub deadlines-of : List (ℕ × ℕ) → List ℕ
 deadlines-of = map (λ j. j .1)
 
-abbrev pub rows-of : List (ℕ × ℕ) → Windows
-rows-of jobs = windows (releases-of jobs) (deadlines-of jobs)
+abbrev pub list-with : List (ℕ × ℕ) → Windows
+list-with jobs = windows (releases-of jobs) (deadlines-of jobs)
 
 -- P8's rows
 abbrev pub P8 : List (ℕ × ℕ)

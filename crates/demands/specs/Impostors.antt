@@ -1,19 +1,19 @@
--- Wrong programs that document 01 tells us to try against the promises, four planners and a ledger: none of them keeps its promise. Each is
+-- Wrong programs that document 01 names, four planners and a ledger: none of them keeps its promise. Each is
 -- described by what it does where the checks have nothing to refuse, and each exists, with checks as promised.
 use Prim.Native.Nat.{ℕ, _<_}
 use mathlib.Core.Path.{_≡_}
 use mathlib.Core.List.{List}
-use Rattle.day.specs.declared.Answer.{Answer}
+use Rattle.checks.specs.declared.Answer.{Answer}
 use Rattle.day.specs.declared.Day.{Day}
 use Rattle.day.specs.Windows.{Windows, windows, at}
 use Rattle.day.specs.Plan.{Plan}
-use Rattle.day.specs.Answer.{done, no-plan}
-use Rattle.day.specs.Check.{ListCheck}
+use Rattle.checks.specs.Answer.{done, no-plan}
+use Rattle.checks.specs.Check.{ListCheck}
 use Rattle.claim.specs.Claim.{ClaimCheck}
 use Rattle.planner.specs.Promise.{PlanCheck}
 use Rattle.ledger.specs.declared.LedgerAnswer.{LedgerAnswer}
 use Rattle.ledger.specs.Promise.{no-counts, LedgerPromise}
-use Rattle.demands.specs.Run.{Run, list, Promised, Taken}
+use Rattle.demands.specs.Run.{Run, list, Promised, Admitted}
 
 -- what goes into a planner
 pub record Input : Type 0 where
@@ -54,7 +54,7 @@ Checks planner =
 
 -- with what the checks take it does what Wrong says
 abbrev pub Does : (Run → Type 0) → Planner → Type 0
-Does Wrong planner = (input : Input) → Taken (run-of planner input) → Wrong (run-of planner input)
+Does Wrong planner = (input : Input) → Admitted (run-of planner input) → Wrong (run-of planner input)
 
 -- it answers 7 always
 abbrev pub Seven : Run → Type 0

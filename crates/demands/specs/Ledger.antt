@@ -7,7 +7,7 @@ use Rattle.day.specs.declared.Day.{Day}
 use Rattle.day.specs.Windows.{Windows, at}
 use Rattle.day.specs.Plan.{taken}
 use Rattle.day.specs.Gap.{gaps, cost}
-use Rattle.day.specs.Answer.{done}
+use Rattle.checks.specs.Answer.{done}
 use Rattle.ledger.specs.declared.Fill.the-variants.{Job}
 use Rattle.ledger.specs.declared.SlotAnswer.{SlotAnswer}
 use Rattle.ledger.specs.declared.Counts.{Counts}

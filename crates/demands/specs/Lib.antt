@@ -1,5 +1,6 @@
--- What the customer asked. Read Run first: what goes into the planner and what comes out. Demands lists all statements; each says what holds of
--- every run that keeps a promise, and no program is mentioned. The proofs stand in proofs/ under the same names.
+-- What document 01 demands. Read Run first: what goes into the planner and what comes out. Demands lists all statements; each says what holds of
+-- every run that keeps a promise, and no program is mentioned. The proofs stand in proofs/, most
+-- under the same names; those about a joined list are in Joined, about the ends of a shift in MovingEnds.
 pub mod Run
 pub mod BestPlan
 pub mod DayFile

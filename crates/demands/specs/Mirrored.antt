@@ -1,8 +1,8 @@
 -- Demand 3, mirrored: the mirrored list has the same code and the same cost.
 use mathlib.Core.Path.{_≡_}
 use Rattle.day.specs.Windows.{SameRows}
-use Rattle.day.specs.Change.{mirrored}
-use Rattle.day.specs.Check.{Accepted}
+use Rattle.day.specs.Mirrored.{mirrored}
+use Rattle.checks.specs.Check.{Accepted}
 use Rattle.demands.specs.Run.{Run, list, Served}
 
 -- two runs on one day, the second on the mirrored list of the first

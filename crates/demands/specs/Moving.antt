@@ -5,12 +5,12 @@ use mathlib.Core.Path.{_≡_}
 use mathlib.Core.List.{List, []}
 use lib.ListN.{length}
 use lib.IntN.{ℤ, pos, negsuc}
-use Rattle.day.specs.declared.Answer.{Answer}
+use Rattle.checks.specs.declared.Answer.{Answer}
 use Rattle.day.specs.Windows.{at, windows}
-use Rattle.day.specs.Answer.{says, done, leaves-day}
-use Rattle.day.specs.Change.{Shifts}
-use Rattle.day.specs.Check.{most-slots, most-jobs, GoodRows, Accepted}
-use Rattle.moving.specs.Moving.{Outside, MovePromise}
+use Rattle.checks.specs.Answer.{says, done, leaves-day}
+use Rattle.day.specs.Moved.{Shifts}
+use Rattle.checks.specs.Check.{most-slots, most-jobs, GoodRows, Accepted}
+use Rattle.moving.specs.Moving.{WindowLeaves, MovePromise}
 use Rattle.demands.specs.Run.{Run, list, Served}
 
 -- two runs on one day, the second on the list that moving made of the first: it kept its promise, and accepted
@@ -41,10 +41,10 @@ pub record InDay (slots r d : ℕ) : Type 0 where
 
 -- where a window leaves the day, in numbers without a sign: n + 1 slots earlier if r ≤ n, n slots later if d + n > T
 pub record LeavesAtEnds : Type 0 where
-  pub earlier : (slots n r d : ℕ) → InDay slots r d → Outside slots (negsuc n) r d → r ≤ n
-  pub too-early : (slots n r d : ℕ) → r ≤ n → Outside slots (negsuc n) r d
-  pub later : (slots n r d : ℕ) → Outside slots (pos n) r d → slots < d + n
-  pub too-late : (slots n r d : ℕ) → slots < d + n → Outside slots (pos n) r d
+  pub earlier : (slots n r d : ℕ) → InDay slots r d → WindowLeaves slots (negsuc n) r d → r ≤ n
+  pub too-early : (slots n r d : ℕ) → r ≤ n → WindowLeaves slots (negsuc n) r d
+  pub later : (slots n r d : ℕ) → WindowLeaves slots (pos n) r d → slots < d + n
+  pub too-late : (slots n r d : ℕ) → slots < d + n → WindowLeaves slots (pos n) r d
 
 -- a list within the limits, and what moving it gives
 pub record Tried (slots : ℕ) (by : ℤ) (releases deadlines : List ℕ) (a : Answer) (releases-after deadlines-after : List ℕ) : Type 0 where
@@ -55,11 +55,11 @@ pub record Tried (slots : ℕ) (by : ℤ) (releases deadlines : List ℕ) (a : A
 
 pub record MovesAtEnds : Type 0 where
   -- an empty list never gets 18
-  pub empty : (slots : ℕ) (by : ℤ) (deadlines : List ℕ) (a : Answer) (rs ds : List ℕ) → MovePromise slots by [] deadlines a rs ds
+  pub empty : (slots : ℕ) (by : ℤ) (deadlines : List ℕ) (a : Answer) (releases-after deadlines-after : List ℕ) → MovePromise slots by [] deadlines a releases-after deadlines-after
       → a .code ≡ leaves-day → ⊥
   -- by -32,768 slots every other list leaves, with its first row
-  pub smallest : (slots : ℕ) (releases deadlines : List ℕ) (a : Answer) (rs ds : List ℕ)
-      → Tried slots (negsuc 32767) releases deadlines a rs ds → 0 < length releases → a ≡ says leaves-day 1 0
+  pub smallest : (slots : ℕ) (releases deadlines : List ℕ) (a : Answer) (releases-after deadlines-after : List ℕ)
+      → Tried slots (negsuc 32767) releases deadlines a releases-after deadlines-after → 0 < length releases → a ≡ says leaves-day 1 0
   -- by 0 slots nothing changes
-  pub zero : (slots : ℕ) (releases deadlines : List ℕ) (a : Answer) (rs ds : List ℕ)
-      → Tried slots (pos 0) releases deadlines a rs ds → (a ≡ says done 0 0) × (rs ≡ releases) × (ds ≡ deadlines)
+  pub zero : (slots : ℕ) (releases deadlines : List ℕ) (a : Answer) (releases-after deadlines-after : List ℕ)
+      → Tried slots (pos 0) releases deadlines a releases-after deadlines-after → (a ≡ says done 0 0) × (releases-after ≡ releases) × (deadlines-after ≡ deadlines)

@@ -5,13 +5,13 @@ use mathlib.Core.Path.{_≡_}
 use mathlib.Core.List.{List}
 use lib.IntN.{ℤ}
 use denote.Ref.{RefT}
-use Rattle.day.specs.declared.Answer.{Answer}
+use Rattle.checks.specs.declared.Answer.{Answer}
 use Rattle.day.specs.declared.Power.{Power}
 use Rattle.day.specs.declared.Day.{Day}
 use Rattle.day.specs.declared.Job.{Job}
 use Rattle.day.specs.Windows.{Windows}
-use Rattle.day.specs.Refusal.{_then_, Passed}
-use Rattle.day.specs.Check.{SlotsCheck, PowerCheck, JobsCheck, TimesCheck, ListCheck}
+use Rattle.checks.specs.Refusal.{_then_, Passed}
+use Rattle.checks.specs.Check.{SlotsCheck, PowerCheck, JobsCheck, TimesCheck, ListCheck}
 use Rattle.day.specs.Numbering.{Numbering}
 use Rattle.planner.specs.Promise.{PlanPromise}
 use Rattle.claim.specs.Claim.{PricePromise}
@@ -19,26 +19,27 @@ use Rattle.claim.specs.Rows.{NextJob, Judged}
 use Rattle.claim.specs.Choice.{ChoicePromise, PartPromise, SamePart}
 use Rattle.ledger.specs.Promise.{LedgerPromise, SlotPromise}
 use Rattle.moving.specs.Moving.{MovePromise}
-use Rattle.dayfile.specs.declared.Reading.{Reading}
-use Rattle.dayfile.specs.Reader.{Read}
-use Rattle.dayfile.specs.Writer.{Written}
+use Rattle.dayfile.specs.declared.reader.Reading.{Reading}
+use Rattle.dayfile.specs.Reader.{ReadPromise}
+use Rattle.dayfile.specs.Writer.{WritePromise}
 use Rattle.rows.specs.Columns.{releases, deadlines}
 use Rattle.chaskuri.specs.Slot.{SlotNumbered}
 use Rattle.report.specs.declared.Outcome.{Outcome}
-use Rattle.report.specs.declared.text.Text.{Text}
-use Rattle.report.specs.Lines.{Prints}
-use Rattle.report.specs.File.{FileReported, FilePrinted}
+use Rattle.text.specs.declared.Text.{Text}
+use Rattle.text.specs.Lines.{Prints}
+use Rattle.report.specs.File.{FilePromise, ReportPromise}
 
 abbrev pub AtMostOne : {A : Type 0} → (A → Type 0) → Type 0
 AtMostOne {A} Promise = (x y : A) → Promise x → Promise y → x ≡ y
 
 pub record OneOutcome : Type 0 where
-  -- day
+  -- checks
   pub check-slots : (limit slots : ℕ) → AtMostOne (SlotsCheck limit slots then Passed)
   pub check-power : (power : Power) → AtMostOne (PowerCheck power then Passed)
-  pub check-rows : (limit slots : ℕ) (w : Windows) → AtMostOne (JobsCheck limit slots w then Passed)
+  pub check-jobs : (limit slots : ℕ) (w : Windows) → AtMostOne (JobsCheck limit slots w then Passed)
   pub check-times : (slots : ℕ) (w : Windows) → AtMostOne (TimesCheck slots w then Passed)
   pub check-list : (day : Day) (w : Windows) → AtMostOne (ListCheck day w then Passed)
+  -- day
   pub number-rows : (deadlines order : List ℕ) → AtMostOne (Numbering deadlines order)
   -- planner
   pub plan : (day : Day) (w : Windows) (starts table : List ℕ)
@@ -58,18 +59,19 @@ pub record OneOutcome : Type 0 where
       → AtMostOne {A = Answer × List ℕ × List ℕ} (λ o. MovePromise slots by releases deadlines (o .0) (o .1) (o .2))
   -- dayfile
   pub read : (file releases deadlines : List ℕ)
-      → AtMostOne {A = Reading × List ℕ × List ℕ} (λ o. Read file releases deadlines (o .0) (o .1) (o .2))
+      → AtMostOne {A = Reading × List ℕ × List ℕ} (λ o. ReadPromise file releases deadlines (o .0) (o .1) (o .2))
   pub write : (notes : ℕ) (day : Day) (releases deadlines file : List ℕ)
-      → AtMostOne {A = Answer × List ℕ} (λ o. Written notes day releases deadlines file (o .0) (o .1))
-  -- jobs: the record forms that write a list, and the slot's record in numbers; what the others promise is a promise above, at the list's windows
+      → AtMostOne {A = Answer × List ℕ} (λ o. WritePromise notes day releases deadlines file (o .0) (o .1))
+  -- chaskuri: the record forms that write a list, and the slot's record in numbers; what the others promise is a promise above, at the list's windows
   pub move-jobs : (slots : ℕ) (by : ℤ) (jobs : List Job)
       → AtMostOne {A = Answer × List Job}
       (λ o. MovePromise slots by (releases jobs) (deadlines jobs) (o .0) (releases (o .1)) (deadlines (o .1)))
   pub read-jobs : (file : List ℕ) (jobs : List Job)
-      → AtMostOne {A = Reading × List Job} (λ o. Read file (releases jobs) (deadlines jobs) (o .0) (releases (o .1)) (deadlines (o .1)))
+      → AtMostOne {A = Reading × List Job} (λ o. ReadPromise file (releases jobs) (deadlines jobs) (o .0) (releases (o .1)) (deadlines (o .1)))
   pub slot-numbers : (day : Day) (w : Windows) (starts : List ℕ) (asked : ℕ) → AtMostOne (SlotNumbered day w starts asked)
   -- report
   pub plan-file : (file starts table : List ℕ)
-      → AtMostOne {A = Outcome × List ℕ × List ℕ} (λ o. FileReported file starts table (o .0) (o .1) (o .2))
-  pub report : (file table : List ℕ) → AtMostOne {A = Text × List ℕ} (λ o. FilePrinted file table (o .0) (o .1))
+      → AtMostOne {A = Outcome × List ℕ × List ℕ} (λ o. FilePromise file starts table (o .0) (o .1) (o .2))
+  pub report : (file table : List ℕ) → AtMostOne {A = Text × List ℕ} (λ o. ReportPromise file table (o .0) (o .1))
+  -- text
   pub render : (bytes : List ℕ) → AtMostOne (Prints bytes)

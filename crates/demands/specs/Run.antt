@@ -2,10 +2,10 @@
 use Prim.Native.Nat.{ℕ, _≤_}
 use mathlib.Core.List.{List}
 use lib.ListN.{length}
-use Rattle.day.specs.declared.Answer.{Answer}
+use Rattle.checks.specs.declared.Answer.{Answer}
 use Rattle.day.specs.declared.Day.{Day}
 use Rattle.day.specs.Windows.{Windows, windows}
-use Rattle.day.specs.Check.{Accepted}
+use Rattle.checks.specs.Check.{Accepted}
 use Rattle.planner.specs.Table.{need}
 use Rattle.planner.specs.Promise.{PlanPromise}
 
@@ -30,12 +30,12 @@ Promised run =
     PlanPromise (run .day) (list run) (run .starts) (run .table) (run .answer) (run .starts-after) (run .table-after)
 
 -- checks 1 to 6 have nothing to refuse
-pub record Taken (run : Run) : Type 0 where
+pub record Admitted (run : Run) : Type 0 where
   pub accepted : Accepted (run .day) (list run)
-  pub places : list run .count ≤ length (run .starts)
+  pub room : list run .count ≤ length (run .starts)
   pub table : need (run .day .slots) (list run .count) ≤ length (run .table)
 
 -- what the checks take, planned as promised
 pub record Served (run : Run) : Type 0 where
   pub promised : Promised run
-  pub taken : Taken run
+  pub admitted : Admitted run

@@ -6,9 +6,9 @@ use mathlib.Core.List.{List, _++_}
 use mathlib.Core.Logic.{_⊎_}
 use lib.ListN.{length, take}
 use Rattle.day.specs.Windows.{windows, SameRows}
-use Rattle.day.specs.Answer.{done, no-plan}
-use Rattle.day.specs.Change.{joined}
-use Rattle.day.specs.Check.{Accepted}
+use Rattle.checks.specs.Answer.{done, no-plan}
+use Rattle.day.specs.Joined.{joined}
+use Rattle.checks.specs.Check.{Accepted}
 use Rattle.demands.specs.Run.{Run, list, Served}
 
 -- three runs on one day: a list, another, and the rows of the first followed by those of the second

@@ -1,1 +1,1 @@
-// What the customer asked, as theorems of the promises: definitions and theorems alone, no code.
+// What document 01 demands, as theorems of the promises: definitions and theorems alone, no code.

@@ -1,9 +1,9 @@
 -- The laws of places and levels, and why what the code leaves in a table is the rule's.
 pub mod Places
-pub mod Written
+pub mod Along
 pub mod Marks
 pub mod OneJob
 pub mod Sums
 pub mod Level
 pub mod Split
-pub mod ReadBack
+pub mod StartsRead

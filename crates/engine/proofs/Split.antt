@@ -8,7 +8,8 @@ use borrow.Author.Tests.{eq-eqb, ne-eqb}
 use Rattle.rule.specs.Extreme.{least, latest}
 use Rattle.rule.specs.Span.{Problem, may-split, value, sides, best-split, split}
 use Rattle.rule.proofs.Extreme.{least-zero, least-pass, least-skip, least-none-pass, latest-zero, latest-pass, latest-skip, latest-none-pass, latest-cong}
-use Rattle.rule.proofs.Value.{In, MaySplit, may-split-intro, may-split-false, value-in, best-split-is, split-is}
+use Rattle.rule.specs.SpanPlan.{In}
+use Rattle.rule.proofs.Value.{MaySplit, may-split-intro, may-split-false, value-in, best-split-is, split-is}
 
 -- the job may split the span at t, with the sum v
 abbrev ties : Problem → ℕ → ℕ → ℕ → ℕ → Bool

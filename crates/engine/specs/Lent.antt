@@ -9,7 +9,7 @@ use Rattle.rule.specs.Span.{Problem, clear}
 use Rattle.engine.specs.declared.Shape.{Shape}
 use Rattle.engine.specs.Places.{Layout, Fits, layout}
 
--- the shape of the table, where its rows begin, and the jobs by number: releases, deadlines, and for each point how many of the lowest
+-- the shape of the table, where its bands begin, and the jobs by number: releases, deadlines, and for each point how many of the lowest
 -- jobs may split there as far as allowed starts and the releases of lower jobs go
 pub record Lent : Type 0 where
   pub shape : Shape
@@ -37,7 +37,7 @@ pub record Prepared (G : Lent) (n : ℕ) : Type 0 where
   pub fits : Fits (layout-of G)
   pub few-points : G .shape .points ≤ most-points
   pub small-none : G .shape .none ≤ most-none
-  pub rows : G .shape .points ≤ length (G .begins)
+  pub bands : G .shape .points ≤ length (G .begins)
   pub releases : n ≤ length (G .rel)
   pub deadlines : n ≤ length (G .dead)
   pub marked : G .shape .points ≤ length (G .marks)

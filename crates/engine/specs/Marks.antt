@@ -6,7 +6,7 @@ use lib.ListN.{length}
 use Rattle.day.specs.Windows.{at}
 
 -- of the lowest n jobs, job k counts at t exactly if t was marked and no job from `from` on and below k is released there
-pub record Marked (rel : List ℕ) (from n : ℕ) (old new : List ℕ) : Type 0 where
+pub record MarkedBy (rel : List ℕ) (from n : ℕ) (old new : List ℕ) : Type 0 where
   pub long : length new ≡ length old
   pub counts : (k t : ℕ) → k < n → t < length old → k < at new t
       → (0 < at old t) × ((i : ℕ) → from ≤ i → i < k → at rel i ≡ t → ⊥)

@@ -1,4 +1,5 @@
--- What functions of the engine promise each other.
-pub mod Level
+-- What functions of the engine promise each other; a planner says by Bands what its prices are.
+pub mod Bands
+pub mod OneMore
 pub mod Highest
-pub mod Lowered
+pub mod MarkLowered

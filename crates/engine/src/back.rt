@@ -4,16 +4,70 @@ ghost use Prim.Native.Nat.{_+_, _<_, _≤_};
 ghost use lib.ListN.{length};
 ghost use Rattle.day.specs.Windows.{at};
 ghost use Rattle.rule.specs.Span.{Problem, split};
+ghost use Rattle.engine.specs.Places.{place, layout};
 ghost use Rattle.engine.specs.Lent.{lent};
-ghost use Rattle.engine.specs.ReadBack.{Readable, Holds, ReadBack};
-ghost use Rattle.engine.specs.steps.Level.{one-job};
+ghost use Rattle.engine.specs.StartsRead.{ReadBackAsks, PlanHeld, StartsRead};
+ghost use Rattle.engine.specs.steps.OneMore.{one-more, more-of, one-job, Fillable};
 ghost use Rattle.engine.specs.steps.Highest.{Tells, UpToInside};
 use crate::Shape;
-use crate::rows;
-use day::wide;
+use crate::bands;
+use crate::wide_at;
 
-// Where `job`, which is released in the span from `from` to `to`, splits it: of the places with the least sum of the two sides the
-// latest.
+// The sum of the two sides of the span from `from` to `to`, if it is split at `point`.
+fn sum_of_sides(
+    shape: Shape,
+    begins: &[usize],
+    table: &[u16],
+    job: usize,
+    from: usize,
+    point: usize,
+    to: usize,
+) -> u16
+    requires { ⌜ (from < length (now begins)) × (point + 1 < length (now begins)) ⌝ }
+    requires { ⌜ (place (layout shape (now begins)) job from point < length (now table)) × (place (layout shape (now begins)) job (point + 1) to < length (now table)) ⌝ }
+    requires { ⌜ at (now table) (place (layout shape (now begins)) job from point) + at (now table) (place (layout shape (now begins)) job (point + 1) to) < 65536 ⌝ }
+    ensures { λ r. ⌜ r ≡ at (now (table .entry)) (place (layout shape (now (begins .entry))) job from point) + at (now (table .entry)) (place (layout shape (now (begins .entry))) job (point + 1) to) ⌝ }
+{
+    let left = bands::value_at(table, shape, begins, job, from, point);
+    let right = bands::value_at(table, shape, begins, job, point + 1, to);
+    left + right
+}
+
+// Where `job`, with this window, splits the span from `from` to `to`, in which it is released: of the places with the least sum of the
+// two sides the latest.
+fn latest_best(
+    shape: Shape,
+    begins: &[usize],
+    marks: &[u16],
+    table: &[u16],
+    job: usize,
+    release: usize,
+    deadline: usize,
+    from: usize,
+    to: usize,
+) -> usize
+    requires { ⌜ Fillable (one-more shape (now begins) (now marks) job release deadline) (now table) ⌝ }
+    requires { ⌜ (from ≤ release) × (release < to) × (to < shape .points) ⌝ }
+    ensures { λ r. ⌜ r ≡ split (one-job (one-more shape (now (begins .entry)) (now (marks .entry)) job release deadline) (now (table .entry))) 0 from to ⌝ }
+{
+    let end = day::lesser(deadline, to);
+    let mut least = shape.none;
+    let mut found = 0;
+    let mut point = release;
+    while point < end {
+        if job < wide_at(marks, point) {
+            let sum = sum_of_sides(shape, begins, table, job, from, point, to);
+            if sum <= least {
+                least = sum;
+                found = point;
+            }
+        }
+        point += 1;
+    }
+    found
+}
+
+// Where `job`, which is released in the span from `from` to `to`, splits it.
 fn split_of(
     shape: Shape,
     begins: &[usize],
@@ -25,27 +79,23 @@ fn split_of(
     from: usize,
     to: usize,
 ) -> usize
-    requires { ⌜ Readable (lent shape (now begins) (now rel) (now dead) (now marks)) (now table) (job + 1) ⌝ }
+    requires { ⌜ ReadBackAsks (lent shape (now begins) (now rel) (now dead) (now marks)) (now table) (job + 1) ⌝ }
     requires { ⌜ (from ≤ at (now rel) job) × (at (now rel) job < to) × (to < shape .points) ⌝ }
-    ensures { λ r. ⌜ r ≡ split (one-job (lent shape (now (begins .entry)) (now (rel .entry)) (now (dead .entry)) (now (marks .entry))) (now (table .entry)) job) 0 from to ⌝ }
+    ensures { λ r. ⌜ r ≡ split (one-job (more-of (lent shape (now (begins .entry)) (now (rel .entry)) (now (dead .entry)) (now (marks .entry))) job) (now (table .entry))) 0 from to ⌝ }
 {
-    let end = day::lesser(wide(dead[job]), to);
-    let mut least = shape.none;
-    let mut found = 0;
-    let mut point = wide(rel[job]);
-    while point < end {
-        if job < wide(marks[point]) {
-            let left = rows::value_at(table, shape, begins, job, from, point);
-            let right = rows::value_at(table, shape, begins, job, point + 1, to);
-            let sum = left + right;
-            if sum <= least {
-                least = sum;
-                found = point;
-            }
-        }
-        point += 1;
-    }
-    found
+    let release = wide_at(rel, job);
+    let deadline = wide_at(dead, job);
+    latest_best(
+        shape,
+        begins,
+        marks,
+        table,
+        job,
+        release,
+        deadline,
+        from,
+        to,
+    )
 }
 
 // Whether `job` is released in the span from `from` to `to`.
@@ -53,7 +103,7 @@ fn inside(rel: &[u16], job: usize, from: usize, to: usize) -> bool
     requires { ⌜ job < length (now rel) ⌝ }
     ensures { λ b. ⌜ Tells b from to (at (now (rel .entry)) job) ⌝ }
 {
-    let release = wide(rel[job]);
+    let release = wide_at(rel, job);
     if from <= release { release < to } else { false }
 }
 
@@ -86,9 +136,9 @@ pub fn read_back(
     table: &[u16],
     starts: &mut [u16],
 )
-    requires { ⌜ Readable (lent shape (now begins) (now rel) (now dead) (now marks)) (now table) count ⌝ }
+    requires { ⌜ ReadBackAsks (lent shape (now begins) (now rel) (now dead) (now marks)) (now table) count ⌝ }
     requires { ⌜ (to < shape .points) × (count ≤ length (now starts)) ⌝ }
-    ensures { λ _. ⌜ (length (now (starts .exit)) ≡ length (now (starts .entry))) × ((P : Problem) → Holds P (lent shape (now (begins .entry)) (now (rel .entry)) (now (dead .entry)) (now (marks .entry))) (now (table .entry)) count from to → ReadBack P count from to (now (starts .entry)) (now (starts .exit))) ⌝ }
+    ensures { λ _. ⌜ (length (now (starts .exit)) ≡ length (now (starts .entry))) × ((P : Problem) → PlanHeld P (lent shape (now (begins .entry)) (now (rel .entry)) (now (dead .entry)) (now (marks .entry))) (now (table .entry)) count from to → StartsRead P count from to (now (starts .entry)) (now (starts .exit))) ⌝ }
 {
     let left = up_to_inside(rel, count, from, to);
     if left == 0 {

@@ -1,8 +1,13 @@
 // One engine for every table: it fills a table by the rule and reads the plan back, for any problem of the rule, any layout and any width.
+ghost use mathlib.Core.Path.{_≡_};
+ghost use Prim.Native.Nat.{_<_};
+ghost use lib.ListN.{length};
+ghost use Rattle.day.specs.Windows.{at};
+
 pub mod back;
+pub mod bands;
 pub mod fill;
 pub mod mark;
-pub mod rows;
 pub mod square;
 
 // The shape of a table: how many points there are, how many places a level has, and the number that stands for "none".
@@ -10,4 +15,12 @@ pub struct Shape {
     pub points: usize,
     pub level: usize,
     pub none: u16,
+}
+
+// The number at a place of a list, as a place or a count.
+pub(crate) fn wide_at(numbers: &[u16], place: usize) -> usize
+    requires { ⌜ place < length (now numbers) ⌝ }
+    ensures { λ r. ⌜ r ≡ at (now (numbers .entry)) place ⌝ }
+{
+    day::wide(numbers[place])
 }

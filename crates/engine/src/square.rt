@@ -1,10 +1,10 @@
-// The square layout: every row of a level has a place for each point.
+// The square layout: every band of a level has a place for each point.
 ghost use mathlib.Core.Path.{_≡_};
 ghost use Prim.Native.Nat.{_*_, _≤_};
 ghost use lib.ListN.{length};
+ghost use Rattle.day.specs.Changed.{FirstFilled};
 ghost use Rattle.engine.specs.Lent.{most-points};
 ghost use Rattle.engine.specs.Places.{square-begins};
-ghost use Rattle.engine.specs.Written.{Written, itself};
 use crate::Shape;
 
 // The shape of a square table with `points` points.
@@ -19,10 +19,10 @@ pub fn shape_of(points: usize, none: u16) -> Shape
     }
 }
 
-// Says where the rows of a square with `points` points begin.
-pub fn begin_rows(points: usize, begins: &mut [usize])
+// Says where the bands of a square with `points` points begin.
+pub fn begin_bands(points: usize, begins: &mut [usize])
     requires { ⌜ (points ≤ most-points) × (points ≤ length (now begins)) ⌝ }
-    ensures { λ _. ⌜ Written itself 0 points (square-begins points) (now (begins .entry)) (now (begins .exit)) ⌝ }
+    ensures { λ _. ⌜ FirstFilled points (λ s y. y ≡ square-begins points s) (now (begins .entry)) (now (begins .exit)) ⌝ }
 {
     let mut point = 0;
     while point < points {

@@ -10,9 +10,9 @@ use Rattle.day.specs.declared.Power.{Power}
 use Rattle.day.specs.declared.Day.{Day}
 use Rattle.day.specs.Plan.{Plan, taken}
 use Rattle.day.specs.Gap.{price, asleep, ended, gaps-since, gaps, total, cost}
-use Rattle.day.specs.Refusal.{FirstOrEnd}
+use Rattle.checks.specs.steps.FirstOrEnd.{FirstOrEnd}
 use Rattle.day.proofs.Cases.{give, on, on-eq}
-use Rattle.day.proofs.Refusal.{first-or-none}
+use Rattle.checks.proofs.Refusal.{first-or-none}
 use Rattle.day.proofs.Gap.{
   price-asleep,
   price-awake,
@@ -22,13 +22,13 @@ use Rattle.day.proofs.Gap.{
   gaps-since-full,
   gaps-since-empty,
   gaps-same,
+  gaps-from-first,
 }
 use Rattle.claim.specs.Rows.{row-at, holds-job}
 use Rattle.claim.proofs.Rows.{row-at-taken, holds-job-true, holds-job-false}
-use Rattle.claim.proofs.Walk.{gaps-from-first}
 use Rattle.ledger.specs.declared.Counts.{Counts}
 use Rattle.ledger.specs.Fills.{Busy}
-use Rattle.ledger.specs.Count.{Count, InColumn, Counted}
+use Rattle.ledger.specs.Count.{Count, CountedAs, Counted}
 use Rattle.ledger.specs.Sleep.{sleeps}
 use Rattle.ledger.proofs.Count.{count-unique}
 use Rattle.ledger.proofs.Fills.{not-busy}
@@ -55,7 +55,7 @@ module _ {power : Power} {slots : ℕ} {row : ℕ → ℕ} where
   -- from any slot of the walk on, the awake slots are those of the gaps still to come
   awake-counted : {first job awake asleep empty : ℕ}
       (m slot : ℕ) → slot + m ≡ slots → Walked power slots row first job awake asleep empty slot
-      → Count (InColumn power slots row 2) slots (awake + total (awake-slots power) (gaps-since (holds-job row) empty slot m))
+      → Count (CountedAs power slots row 2) slots (awake + total (awake-slots power) (gaps-since (holds-job row) empty slot m))
   unfolding awake-slots
   awake-counted {awake = awake} {empty = empty} zero slot e p =
       let all : awake + total (awake-slots power) (gaps-since (holds-job row) empty slot 0) ≡ awake =
@@ -67,7 +67,7 @@ module _ {power : Power} {slots : ℕ} {row : ℕ → ℕ} where
       (λ here.
       rw (gaps-since-empty (holds-job row) empty slot m (holds-job-false row slot here))
       (awake-counted m (suc slot) (omega arith)
-      (rw (add-one slot) at (walked-empty {empty' = suc empty} p (omega arith) here (sym (add-one empty))))))
+      (rw (add-one slot) at (walked-empty {empty-after = suc empty} p (omega arith) here (sym (add-one empty))))))
       (λ busy.
       let rest : ℕ = total (awake-slots power) (gaps-since (holds-job row) 0 (suc slot) m) in
       let sum : awake + total (awake-slots power) (gaps-since (holds-job row) empty slot (suc m)) ≡ awake + awake-slots power empty + rest =
@@ -75,7 +75,7 @@ module _ {power : Power} {slots : ℕ} {row : ℕ → ℕ} where
       (omega (arith, total-awake-ended power empty (gaps-since (holds-job row) 0 (suc slot) m)))
       in
       rw sum
-      (awake-counted m (suc slot) (omega arith) (rw (add-one slot) at (walked-job {awake' = awake + awake-slots power empty} {empty' = 0} p
+      (awake-counted m (suc slot) (omega arith) (rw (add-one slot) at (walked-job {awake-after = awake + awake-slots power empty} {empty-after = 0} p
       (omega arith) busy refl refl refl refl refl))))
 
   -- the awake slots are those of the gaps

@@ -2,22 +2,22 @@
 use Prim.Native.Nat.{ℕ, zero, suc, _+_, _≤_, _<_}
 use mathlib.Core.Path.{_≡_, refl, ap}
 use native.Mathlib.Omega.{arith}
-use Rattle.ledger.specs.Count.{Count, none, counted, passed}
+use Rattle.ledger.specs.Count.{Count, counted-none, counted, passed-over}
 
 pub count-unique : {P : ℕ → Type 0} {m c d : ℕ} → Count P m c → Count P m d → c ≡ d
-count-unique none none = refl
+count-unique counted-none counted-none = refl
 count-unique (counted p h) (counted q l) = ap suc (count-unique p q)
-count-unique (counted p h) (passed q l) = absurd (l h)
-count-unique (passed p h) (counted q l) = absurd (h l)
-count-unique (passed p h) (passed q l) = count-unique p q
+count-unique (counted p h) (passed-over q l) = absurd (l h)
+count-unique (passed-over p h) (counted q l) = absurd (h l)
+count-unique (passed-over p h) (passed-over q l) = count-unique p q
 
 -- properties that agree count alike
 pub count-same : {P Q : ℕ → Type 0} {m c : ℕ} → ((u : ℕ) → u < m → P u → Q u) → ((u : ℕ) → u < m → Q u → P u) → Count P m c → Count Q m c
-count-same to from none = none
+count-same to from counted-none = counted-none
 count-same to from (counted {m = m} p h) =
     counted (count-same (λ u l. to u (omega arith)) (λ u l. from u (omega arith)) p) (to m (omega arith) h)
-count-same to from (passed {m = m} p h) =
-    passed (count-same (λ u l. to u (omega arith)) (λ u l. from u (omega arith)) p) (λ q. h (from m (omega arith) q))
+count-same to from (passed-over {m = m} p h) =
+    passed-over (count-same (λ u l. to u (omega arith)) (λ u l. from u (omega arith)) p) (λ q. h (from m (omega arith) q))
 
 -- of g further numbers all count, or none does
 pub count-all : {P : ℕ → Type 0} {m c : ℕ} (g n d : ℕ) → n ≡ m + g → d ≡ c + g → Count P m c → ((u : ℕ) → m ≤ u → u < n → P u)
@@ -39,4 +39,4 @@ count-none {P} {m} {c} zero n e p never =
 count-none {P} {m} {c} (suc g) n e p never =
     let here : n ≡ suc (m + g) = omega arith in
     rw here
-    (passed (count-none g (m + g) refl p (λ u h l. never u h (omega arith))) (never (m + g) (omega arith) (omega arith)))
+    (passed-over (count-none g (m + g) refl p (λ u h l. never u h (omega arith))) (never (m + g) (omega arith) (omega arith)))

@@ -1,17 +1,22 @@
--- One thing fills each slot of the day. Assumes nothing.
+-- One thing fills each slot of the day; a fit plan's rows fill the slots in which they start. Assumes nothing.
 use Prim.Native.Nat.{ℕ, zero, suc, _+_, _-_, _≤_, _<_}
 use mathlib.Core.Path.{_≡_, refl}
 use mathlib.Core.Bool.{true, false}
 use mathlib.Core.Logic.{_⊎_, inl, inr, ⊎-elim}
+use mathlib.Core.List.{List}
 use native.Mathlib.Omega.{arith}
 use Rattle.day.specs.declared.Power.{Power}
+use Rattle.day.specs.Windows.{Windows, at}
 use Rattle.day.specs.Gap.{asleep}
-use Rattle.day.specs.Refusal.{First}
+use Rattle.checks.specs.Refusal.{First}
 use Rattle.day.proofs.Cases.{give, on, on-eq, on-le, not-both}
-use Rattle.day.proofs.Refusal.{first-or-none}
+use Rattle.checks.proofs.Refusal.{first-or-none}
+use Rattle.claim.specs.Claim.{Fit}
+use Rattle.claim.proofs.Rows.{row-at-own}
 use Rattle.ledger.specs.declared.Fill.{Fill}
 use Rattle.ledger.specs.declared.Fill.the-variants.{Job, Before, Awake, Asleep, After}
 use Rattle.ledger.specs.Fills.{Empty, Busy, InGap, Fills, by-job, before-first, after-last, in-awake, in-asleep}
+use Rattle.ledger.specs.Promise.{plan-row}
 use Rattle.ledger.proofs.InGap.{GapAround, around, in-gap}
 
 pub not-busy : (row : ℕ → ℕ) (t : ℕ) → (Busy row t → ⊥) → Empty row t
@@ -153,3 +158,12 @@ module _ (power : Power) (slots : ℕ) (row : ℕ → ℕ) (t : ℕ) (within : t
       (λ n. (Before, before-first (λ u h. on-eq u t (λ z. rw z e) (λ z. n u (omega arith)))))
       (last-or-none row t))
       (λ b. (Job (row t), by-job b))
+
+-- a row of a fit plan fills the slot in which it starts
+pub row-fills : (power : Power) (slots : ℕ) (w : Windows) (starts : List ℕ) → Fit w starts → (i : ℕ) → i < w .count
+    → Fills power slots (plan-row w starts) (at starts i) (Job (i + 1))
+row-fills power slots w starts fit i h =
+    give (row-at-own (w .count) (at starts) i h (fit .proper .apart))
+    (λ here.
+    let number : i + 1 ≡ plan-row w starts (at starts i) = omega (arith, here) in
+    rw number (by-job (λ e. omega (arith, here, e))))

@@ -3,7 +3,7 @@ use Prim.Native.Nat.{ℕ, suc, _+_, _-_, _≤_, _<_}
 use mathlib.Core.Path.{_≡_}
 use native.Mathlib.Omega.{arith}
 use Rattle.day.proofs.Cases.{give, on-eq, not-both}
-use Rattle.day.proofs.GapRuns.{Between, gap-between, between-gap}
+use Rattle.day.proofs.GapRuns.{gap-around, around-gap}
 use Rattle.claim.specs.Rows.{holds-job}
 use Rattle.claim.proofs.Rows.{holds-job-true, holds-job-false}
 use Rattle.ledger.specs.Fills.{Empty, Busy, InGap}
@@ -21,7 +21,7 @@ pub record GapAround (slots : ℕ) (row : ℕ → ℕ) (t g : ℕ) : Type 0 wher
 module _ {slots : ℕ} {row : ℕ → ℕ} {t g : ℕ} where
   pub around : InGap slots row t g → GapAround slots row t g
   around p =
-      give (gap-between (holds-job row) slots (p .gap))
+      give (gap-around (holds-job row) slots (p .gap))
       (λ next-to.
       let end : p .from - 1 + g + 1 ≡ p .from + g = omega (arith, next-to .later) in
       record {
@@ -45,7 +45,7 @@ module _ {slots : ℕ} {row : ℕ → ℕ} {t g : ℕ} where
       record {
         from = suc (p .last);
         gap =
-            between-gap (holds-job row) slots (omega (arith, p .after-last, p .before-next))
+            around-gap (holds-job row) slots (omega (arith, p .after-last, p .before-next))
             (λ u h l. holds-job-false row u (p .empty u (omega arith) (omega arith)))
             (record {
               later = omega arith;

@@ -2,10 +2,10 @@
 pub mod Count
 pub mod InGap
 pub mod Fills
-pub mod Column
+pub mod CountedAs
 pub mod Walked
 pub mod Run
-pub mod Same
+pub mod SameRows
 pub mod Cost
 pub mod Outer
-pub mod Promise
+pub mod Unique

@@ -3,46 +3,46 @@ use Prim.Native.Nat.{ℕ, suc, _+_, _-_, _≤_, _<_}
 use mathlib.Core.Path.{_≡_, refl}
 use native.Mathlib.Omega.{arith}
 use Rattle.day.specs.declared.Power.{Power}
-use Rattle.day.specs.Refusal.{FirstOrEnd}
+use Rattle.checks.specs.steps.FirstOrEnd.{FirstOrEnd}
 use Rattle.day.proofs.Cases.{on-le}
 use Rattle.ledger.specs.declared.Fill.the-variants.{Before, After}
 use Rattle.ledger.specs.declared.Fill.{Fill}
 use Rattle.ledger.specs.declared.Counts.{Counts}
 use Rattle.ledger.specs.Fills.{Empty, Busy, Fills, by-job, before-first, after-last, in-awake, in-asleep}
-use Rattle.ledger.specs.Count.{none, column, Counted}
+use Rattle.ledger.specs.Count.{counted-none, counted-as, Counted}
 use Rattle.ledger.proofs.Count.{count-unique, count-all, count-none}
 use Rattle.ledger.proofs.Fills.{not-busy}
-use Rattle.ledger.proofs.Column.{five-add-up}
+use Rattle.ledger.proofs.CountedAs.{five-add-up}
 
 module _ {power : Power} {slots : ℕ} {row : ℕ → ℕ} where
-  column-before : {t : ℕ} {f : Fill} → Fills power slots row t f → column f ≡ 0 → (u : ℕ) → u ≤ t → Empty row u
-  column-before (by-job b) e = absurd (omega arith)
-  column-before (before-first n) e = n
-  column-before (after-last s h b n) e = absurd (omega arith)
-  column-before (in-awake g p z) e = absurd (omega arith)
-  column-before (in-asleep g p z) e = absurd (omega arith)
+  counted-before : {t : ℕ} {f : Fill} → Fills power slots row t f → counted-as f ≡ 0 → (u : ℕ) → u ≤ t → Empty row u
+  counted-before (by-job b) e = absurd (omega arith)
+  counted-before (before-first n) e = n
+  counted-before (after-last s h b n) e = absurd (omega arith)
+  counted-before (in-awake g p z) e = absurd (omega arith)
+  counted-before (in-asleep g p z) e = absurd (omega arith)
 
-  -- a job comes before a slot that is counted as after
-  column-after : {t last : ℕ} {f : Fill} → Fills power slots row t f → column f ≡ 4 → Busy row last → last < slots → last < t
-  column-after (by-job b) e job l = absurd (omega arith)
-  column-after (before-first n) e job l = absurd (omega arith)
-  column-after {t} {last} (after-last s h b n) e job l = on-le last s (λ k. omega arith) (λ k. absurd (job (n last k l)))
-  column-after (in-awake g p z) e job l = absurd (omega arith)
-  column-after (in-asleep g p z) e job l = absurd (omega arith)
+  -- a job comes before a slot that belongs to the count after
+  counted-after : {t last : ℕ} {f : Fill} → Fills power slots row t f → counted-as f ≡ 4 → Busy row last → last < slots → last < t
+  counted-after (by-job b) e job l = absurd (omega arith)
+  counted-after (before-first n) e job l = absurd (omega arith)
+  counted-after {t} {last} (after-last s h b n) e job l = on-le last s (λ k. omega arith) (λ k. absurd (job (n last k l)))
+  counted-after (in-awake g p z) e job l = absurd (omega arith)
+  counted-after (in-asleep g p z) e job l = absurd (omega arith)
 
   -- before counts the slots up to the first job; without jobs, all
   pub before-first-job : {c : Counts} (first : ℕ) → Counted power slots row c → FirstOrEnd slots (Busy row) first → c .before ≡ first
   before-first-job first p begun =
       count-unique (p .before)
       (count-none (slots - first) slots (omega (arith, begun .within))
-      (count-all first first first (omega arith) (omega arith) none
+      (count-all first first first (omega arith) (omega arith) counted-none
       (λ u h l.
       record {
         fill = Before;
         fills = before-first (λ v k. not-busy row v (begun .lowest v (omega arith)));
         here = refl;
       }))
-      (λ u h l q. begun .fault (omega arith) (column-before (q .fills) (q .here) first h)))
+      (λ u h l q. begun .fault (omega arith) (counted-before (q .fills) (q .here) first h)))
 
   -- after counts the slots past the last job
   pub after-last-job : {c : Counts} (last : ℕ) → Counted power slots row c → last < slots → Busy row last
@@ -50,7 +50,7 @@ module _ {power : Power} {slots : ℕ} {row : ℕ → ℕ} where
   after-last-job last p within job clear =
       count-unique (p .after)
       (count-all (slots - suc last) slots (slots - suc last) (omega arith) (omega arith)
-      (count-none (suc last) (suc last) (omega arith) none (λ u h l q. omega (arith, column-after (q .fills) (q .here) job within)))
+      (count-none (suc last) (suc last) (omega arith) counted-none (λ u h l q. omega (arith, counted-after (q .fills) (q .here) job within)))
       (λ u h l. record { fill = After; fills = after-last last (omega arith) job clear; here = refl }))
 
 -- without jobs before is T and the rest 0

@@ -6,13 +6,13 @@ use native.Mathlib.Omega.{arith}
 use lib.ListN.{length}
 use Rattle.day.specs.declared.Power.{Power}
 use Rattle.day.specs.Windows.{at}
-use Rattle.day.specs.Refusal.{FirstOrEnd}
+use Rattle.checks.specs.steps.FirstOrEnd.{FirstOrEnd}
 use Rattle.day.proofs.Cases.{on-eq, on-le, not-both}
 use Rattle.claim.specs.Rows.{NextJob}
 use Rattle.claim.proofs.Rows.{holds-job-true, holds-job-false, next-within}
 use Rattle.ledger.specs.declared.Fill.the-variants.{Before, After}
 use Rattle.ledger.specs.Fills.{Empty, Busy, InGap, Fills, before-first, after-last}
-use Rattle.ledger.specs.Run.{RunStart}
+use Rattle.ledger.specs.steps.Run.{RunStart}
 use Rattle.ledger.proofs.InGap.{in-gap}
 use Rattle.ledger.proofs.Fills.{not-busy}
 
@@ -27,7 +27,7 @@ next-first {rows} {s} next =
     record {
       within = next-within next (omega arith);
       fault = λ h e. not-both (next .job h) (holds-job-false (at rows) s e);
-      lowest = λ u h busy. next .none u h (omega arith) (holds-job-true (at rows) u busy);
+      lowest = λ u h busy. next .empty-before u h (omega arith) (holds-job-true (at rows) u busy);
     }
 
 module _ {rows : List ℕ} {slot start : ℕ} (here : Empty (at rows) slot) (run : RunStart rows slot start) where
@@ -37,7 +37,7 @@ module _ {rows : List ℕ} {slot start : ℕ} (here : Empty (at rows) slot) (run
 
   clear-to : {end : ℕ} → NextJob rows slot end → (u : ℕ) → start ≤ u → u < end → Empty (at rows) u
   clear-to next u h l =
-      on-le slot u (λ k. not-busy (at rows) u (λ busy. next .none u l k (holds-job-true (at rows) u busy)))
+      on-le slot u (λ k. not-busy (at rows) u (λ busy. next .empty-before u l k (holds-job-true (at rows) u busy)))
       (λ k. run .empty u h k)
 
   -- with no job from there on it is after the last

@@ -5,15 +5,15 @@ use mathlib.Core.Bool.{cond}
 use native.Mathlib.Omega.{arith}
 use Rattle.day.specs.declared.Power.{Power}
 use Rattle.day.specs.Gap.{asleep as sleeping}
-use Rattle.day.specs.Refusal.{FirstOrEnd}
+use Rattle.checks.specs.steps.FirstOrEnd.{FirstOrEnd}
 use Rattle.day.proofs.Cases.{give, on, on-eq}
 use Rattle.ledger.specs.declared.Fill.the-variants.{Job, Before, Awake, Asleep, After}
 use Rattle.ledger.specs.declared.Counts.{Counts}
 use Rattle.ledger.specs.Fills.{Empty, Busy, InGap, by-job, before-first, after-last, in-awake, in-asleep}
-use Rattle.ledger.specs.Count.{none, CountedTo, Counted}
+use Rattle.ledger.specs.Count.{counted-none, Counted}
 use Rattle.ledger.proofs.InGap.{in-gap}
 use Rattle.ledger.proofs.Fills.{not-busy}
-use Rattle.ledger.proofs.Column.{gain, counted-block}
+use Rattle.ledger.proofs.CountedAs.{gain, CountedTo, counted-to-end, counted-block}
 
 abbrev pub five : ℕ → ℕ → ℕ → ℕ → ℕ → Counts
 five before job awake asleep after = record { before = before; job = job; awake = awake; asleep = asleep; after = after }
@@ -35,7 +35,7 @@ pub record Walked (power : Power) (slots : ℕ) (row : ℕ → ℕ) (first job a
 
 module _ {power : Power} {slots : ℕ} {row : ℕ → ℕ} where
   counts-none : CountedTo power slots row 0 (five 0 0 0 0 0)
-  counts-none = record { before = none; job = none; awake = none; asleep = none; after = none }
+  counts-none = record { before = counted-none; job = counted-none; awake = counted-none; asleep = counted-none; after = counted-none }
 
   pub walked-first : {first : ℕ} → FirstOrEnd slots (Busy row) first → Walked power slots row first 0 0 0 0 first
   unfolding gain
@@ -56,8 +56,8 @@ module _ {power : Power} {slots : ℕ} {row : ℕ → ℕ} where
       }
 
   -- an empty slot waits for the job that shows what it is
-  pub walked-empty : {first job awake asleep empty slot empty' : ℕ} → Walked power slots row first job awake asleep empty slot
-      → slot < slots → Empty row slot → empty' ≡ empty + 1 → Walked power slots row first job awake asleep empty' (slot + 1)
+  pub walked-empty : {first job awake asleep empty slot empty-after : ℕ} → Walked power slots row first job awake asleep empty slot
+      → slot < slots → Empty row slot → empty-after ≡ empty + 1 → Walked power slots row first job awake asleep empty-after (slot + 1)
   walked-empty {first} {job} {awake} {asleep} {empty} {slot} p within here e =
       let same : slot + 1 - (empty + 1) ≡ slot - empty = omega arith in
       rw e
@@ -122,11 +122,11 @@ module _ {power : Power} {slots : ℕ} {row : ℕ → ℕ} where
       (λ u h l. record { fill = Awake; fills = in-awake empty (gap-around p within busy u h l) z; here = refl }) (p .settled)
       (omega arith) (omega arith) (omega arith) (omega arith) (omega arith))
 
-  pub walked-job : {first job awake asleep empty slot dark job' awake' asleep' empty' : ℕ}
+  pub walked-job : {first job awake asleep empty slot dark job-after awake-after asleep-after empty-after : ℕ}
       → Walked power slots row first job awake asleep empty slot
       → slot < slots → Busy row slot → dark ≡ cond (sleeping power empty) empty 0
-      → asleep' ≡ asleep + dark → awake' ≡ awake + (empty - dark) → job' ≡ job + 1 → empty' ≡ 0
-      → Walked power slots row first job' awake' asleep' empty' (slot + 1)
+      → asleep-after ≡ asleep + dark → awake-after ≡ awake + (empty - dark) → job-after ≡ job + 1 → empty-after ≡ 0
+      → Walked power slots row first job-after awake-after asleep-after empty-after (slot + 1)
   unfolding gain
   walked-job {first} {job} {awake} {asleep} {empty} {slot} {dark} p within busy d a w j e =
       rw (a, w, j, e)
@@ -153,7 +153,8 @@ module _ {power : Power} {slots : ℕ} {row : ℕ → ℕ} where
       → Counted power slots row (five first job awake asleep empty)
   unfolding gain
   walked-end {first} {job} {awake} {asleep} {empty} {slot} p end =
-      counted-block {m = slot - empty} {c = five first job awake asleep 0} 4 empty slots (omega (arith, p .sum, p .within)) (omega arith)
+      counted-to-end
+      (counted-block {m = slot - empty} {c = five first job awake asleep 0} 4 empty slots (omega (arith, p .sum, p .within)) (omega arith)
       (λ u h l.
       give (p .last (omega (arith, p .sum, p .within)))
       (λ behind.
@@ -164,4 +165,4 @@ module _ {power : Power} {slots : ℕ} {row : ℕ → ℕ} where
             (λ v a b. p .waiting v (omega (arith, behind .0)) (omega arith));
         here = refl;
       }))
-      (p .settled) (omega arith) (omega arith) (omega arith) (omega arith) (omega arith)
+      (p .settled) (omega arith) (omega arith) (omega arith) (omega arith) (omega arith))

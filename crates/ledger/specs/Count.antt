@@ -9,32 +9,28 @@ use Rattle.ledger.specs.Fills.{Fills}
 
 -- of the numbers below m, c have the property
 pub data Count (P : ℕ → Type 0) : ℕ → ℕ → Type 0 where
-  none : Count P 0 0
+  counted-none : Count P 0 0
   counted : {m c : ℕ} → Count P m c → P m → Count P (suc m) (suc c)
-  passed : {m c : ℕ} → Count P m c → (P m → ⊥) → Count P (suc m) c
+  passed-over : {m c : ℕ} → Count P m c → (P m → ⊥) → Count P (suc m) c
 
--- the ledger's column, in document 01's order, that counts a slot so filled
-abbrev pub column : Fill → ℕ
-column Before = 0
-column (Job row) = 1
-column Awake = 2
-column Asleep = 3
-column After = 4
+-- the count, in document 01's order, that a slot so filled belongs to
+abbrev pub counted-as : Fill → ℕ
+counted-as Before = 0
+counted-as (Job row) = 1
+counted-as Awake = 2
+counted-as Asleep = 3
+counted-as After = 4
 
--- what fills slot t is counted in column k
-pub record InColumn (power : Power) (slots : ℕ) (row : ℕ → ℕ) (k t : ℕ) : Type 0 where
+-- what fills slot t belongs to count k
+pub record CountedAs (power : Power) (slots : ℕ) (row : ℕ → ℕ) (k t : ℕ) : Type 0 where
   pub fill : Fill
   pub fills : Fills power slots row t fill
-  pub here : column fill ≡ k
+  pub here : counted-as fill ≡ k
 
--- of the slots below m, the five counts
-pub record CountedTo (power : Power) (slots : ℕ) (row : ℕ → ℕ) (m : ℕ) (counts : Counts) : Type 0 where
-  pub before : Count (InColumn power slots row 0) m (counts .before)
-  pub job : Count (InColumn power slots row 1) m (counts .job)
-  pub awake : Count (InColumn power slots row 2) m (counts .awake)
-  pub asleep : Count (InColumn power slots row 3) m (counts .asleep)
-  pub after : Count (InColumn power slots row 4) m (counts .after)
-
--- of all slots of the day
-abbrev pub Counted : Power → ℕ → (ℕ → ℕ) → Counts → Type 0
-Counted power slots row = CountedTo power slots row slots
+-- of the slots of the day, the five counts
+pub record Counted (power : Power) (slots : ℕ) (row : ℕ → ℕ) (counts : Counts) : Type 0 where
+  pub before : Count (CountedAs power slots row 0) slots (counts .before)
+  pub job : Count (CountedAs power slots row 1) slots (counts .job)
+  pub awake : Count (CountedAs power slots row 2) slots (counts .awake)
+  pub asleep : Count (CountedAs power slots row 3) slots (counts .asleep)
+  pub after : Count (CountedAs power slots row 4) slots (counts .after)

@@ -2,12 +2,12 @@
 use Prim.Native.Nat.{ℕ, _≤_}
 use mathlib.Core.Path.{_≡_}
 use mathlib.Core.List.{List}
-use Rattle.day.specs.declared.Answer.{Answer}
+use Rattle.checks.specs.declared.Answer.{Answer}
 use Rattle.day.specs.declared.Day.{Day}
 use Rattle.day.specs.Windows.{Windows, at}
-use Rattle.day.specs.Answer.{done, no-such-slot}
-use Rattle.day.specs.Refusal.{_then_, Passed, Refuses}
-use Rattle.day.specs.Check.{ListCheck}
+use Rattle.checks.specs.Answer.{done, no-such-slot}
+use Rattle.checks.specs.Refusal.{_then_, Passed, Refuses}
+use Rattle.checks.specs.Check.{ListCheck}
 use Rattle.claim.specs.Claim.{ClaimCheck}
 use Rattle.claim.specs.Rows.{row-at}
 use Rattle.ledger.specs.declared.Fill.the-variants.{Before}

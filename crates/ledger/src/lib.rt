@@ -4,9 +4,9 @@ mod walk;
 ghost use Rattle.day.specs.Windows.{windows};
 ghost use mathlib.Core.Path.{_≡_};
 ghost use Rattle.ledger.specs.Promise.{no-slot, LedgerPromise, SlotPromise};
-use day::Answer;
+use checks::Answer;
+use checks::code;
 use day::Day;
-use day::code;
 
 // What fills a slot: the job of a row, counted from 1; the machine before the first job, awake or asleep in a gap, or after the last job.
 pub enum Fill {

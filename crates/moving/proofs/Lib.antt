@@ -1,5 +1,5 @@
 -- The laws of moving a list.
 pub mod Signs
 pub mod Moving
-pub mod Ends
 pub mod Unique
+pub mod Ends

@@ -8,17 +8,17 @@ use lib.ListN.{length}
 use lib.IntN.{ℤ, pos, negsuc, _+ℤ_}
 use lib.Signed.{ltZ, _<ℤ_}
 use borrow.Author.Tests.{lt-ltb, le-ltb}
-use Rattle.day.specs.declared.Answer.{Answer}
+use Rattle.checks.specs.declared.Answer.{Answer}
 use Rattle.day.specs.Windows.{Windows, at, windows}
-use Rattle.day.specs.Change.{Shifts}
-use Rattle.day.specs.Answer.{done}
-use Rattle.day.specs.Refusal.{_then_, Passed}
-use Rattle.day.specs.Check.{most-slots, most-jobs, TimesCheck, GoodRows}
+use Rattle.day.specs.Moved.{Shifts, Moved}
+use Rattle.checks.specs.Answer.{done}
+use Rattle.checks.specs.Refusal.{_then_, Passed}
+use Rattle.checks.specs.Check.{most-slots, most-jobs, TimesCheck, GoodRows}
 use Rattle.day.proofs.Cases.{give, on, on-le}
-use Rattle.day.proofs.Refusal.{IsCheck, refuses-row-is-check, then-is-check, passed-clear, clear-first, clear-next, no-fault, no-row-at-fault}
-use Rattle.day.proofs.Check.{times-is-check, clear-good-rows}
-use Rattle.moving.specs.Moving.{Outside, MoveCheck, RowsMoved}
-use Rattle.moving.specs.Steps.{Movable, FirstMoved}
+use Rattle.checks.proofs.Refusal.{IsCheck, refuses-row-is-check, then-is-check, passed-clear, clear-first, clear-next, no-fault, no-row-at-fault}
+use Rattle.checks.proofs.Check.{times-is-check, clear-good-rows}
+use Rattle.moving.specs.Moving.{WindowLeaves, MoveCheck, RowsMoved}
+use Rattle.moving.specs.steps.Movable.{Movable}
 use Rattle.moving.proofs.Signs.{below, not-below, shift-keeps-order}
 
 -- where a window goes that stays in the day
@@ -30,8 +30,8 @@ pub record Stays (slots : ℕ) (by : ℤ) (release deadline : ℕ) : Type 0 wher
   pub order : begin < end
   pub inside : end ≤ slots
 
-outside-known : (slots : ℕ) (by : ℤ) (release deadline : ℕ) → Outside slots by release deadline ⊎ (Outside slots by release deadline → ⊥)
-outside-known slots by release deadline =
+leaves-known : (slots : ℕ) (by : ℤ) (release deadline : ℕ) → WindowLeaves slots by release deadline ⊎ (WindowLeaves slots by release deadline → ⊥)
+leaves-known slots by release deadline =
     on (ltZ (pos release +ℤ by) (pos 0)) (λ e. inl (inl (below _ _ e)))
     (λ e.
     on (ltZ (pos slots) (pos deadline +ℤ by)) (λ f. inl (inr (below _ _ f)))
@@ -49,7 +49,7 @@ above-number y (negsuc x) h = absurd (not-below (pos y) (negsuc x) refl h)
 not-above : (x y : ℕ) → (pos x <ℤ pos y → ⊥) → y ≤ x
 not-above x y h = on-le y x (λ l. l) (λ l. absurd (h (below (pos x) (pos y) (lt-ltb x y l))))
 
-pub stays : {slots : ℕ} {by : ℤ} {release deadline : ℕ} → release < deadline → (Outside slots by release deadline → ⊥)
+pub stays : {slots : ℕ} {by : ℤ} {release deadline : ℕ} → release < deadline → (WindowLeaves slots by release deadline → ⊥)
     → Stays slots by release deadline
 stays {slots} {by} {release} {deadline} h clear =
     give (not-below-zero (pos release +ℤ by) (λ l. clear (inl l)))
@@ -86,7 +86,7 @@ acceptable {slots} {by} {w} a p e =
       rows = good;
       stay = λ i h.
           stays (good .window i h)
-          (no-row-at-fault (λ j. outside-known slots by (w .release j) (w .deadline j)) (clear-next clear) i h);
+          (no-row-at-fault (λ j. leaves-known slots by (w .release j) (w .deadline j)) (clear-next clear) i h);
     }))
 
 pub releases-movable : {slots : ℕ} {by : ℤ} (releases deadlines : List ℕ) → Acceptable slots by (windows releases deadlines)
@@ -99,12 +99,8 @@ pub deadlines-movable : {slots : ℕ} {by : ℤ} (releases deadlines : List ℕ)
 deadlines-movable releases deadlines a i h =
     give (a .stay i h) (λ s. (s .end, omega (arith, a .slots-limit), s .deadline-moved))
 
-pub rows-moved : {by : ℤ} {releases deadlines releases-after deadlines-after : List ℕ}
-    → FirstMoved by (length releases) releases releases-after → FirstMoved by (length releases) deadlines deadlines-after
+-- the windows of a list whose rows are moved
+pub windows-moved : {by : ℤ} {releases deadlines releases-after deadlines-after : List ℕ}
     → RowsMoved by releases deadlines releases-after deadlines-after
-rows-moved r d =
-    record {
-      rows = record { count = r .as-long; release = r .filled; deadline = d .filled };
-      as-long = d .as-long;
-      surplus = d .rest;
-    }
+    → Moved by (windows releases deadlines) (windows releases-after deadlines-after)
+windows-moved m = record { count = m .moved-releases .long; release = m .moved-releases .inside; deadline = m .moved-deadlines .inside }

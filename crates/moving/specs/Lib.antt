@@ -1,3 +1,3 @@
--- The moving of a list, of document 01.
+-- The moving of a list, of document 01. What functions promise each other on the way is in `steps`.
 pub mod Moving
-pub mod Steps
+pub mod steps

@@ -1,17 +1,18 @@
 // Moving a list: all windows go earlier or later by a signed number of slots, in the caller's own list.
-use day::Answer;
+use checks::Answer;
+use checks::check_times;
+use checks::code;
 use day::at_or_zero;
-use day::check_times;
-use day::code;
 ghost use mathlib.Core.Path.{_≡_};
 ghost use Prim.Native.Nat.{_≤_};
 ghost use lib.ListN.{length};
 ghost use lib.IntN.{pos, _+ℤ_};
 ghost use Rattle.day.specs.Windows.{windows};
-ghost use Rattle.day.specs.Refusal.{_then_, Passed, FirstOrEnd};
-ghost use Rattle.day.specs.Check.{TimesCheck};
-ghost use Rattle.moving.specs.Moving.{Outside, LeavesDay, MoveCheck, MovePromise};
-ghost use Rattle.moving.specs.Steps.{Decides, Movable, FirstMoved};
+ghost use Rattle.checks.specs.Refusal.{_then_, Passed};
+ghost use Rattle.checks.specs.steps.FirstOrEnd.{FirstOrEnd};
+ghost use Rattle.checks.specs.Check.{TimesCheck};
+ghost use Rattle.moving.specs.Moving.{WindowLeaves, LeavesDay, MoveCheck, FirstMoved, MovePromise};
+ghost use Rattle.moving.specs.steps.Movable.{Decides, Movable};
 
 // Moves every row by `by` slots; a positive number is later. Where it refuses, no list is touched.
 pub fn move_list(slots: u16, by: i16, releases: &mut [u16], deadlines: &mut [u16]) -> Answer
@@ -63,7 +64,7 @@ fn first_leaving(slots: u16, by: i16, releases: &[u16], deadlines: &[u16]) -> us
 
 // Whether a window, moved, begins before slot 0 or ends after the day.
 fn leaves_day(slots: u16, by: i16, release: u16, deadline: u16) -> bool
-    ensures { λ r. ⌜ Decides (Outside slots by release deadline) r ⌝ }
+    ensures { λ r. ⌜ Decides (WindowLeaves slots by release deadline) r ⌝ }
 {
     if moved(release, by) < 0 {
         return true;

@@ -1,175 +1,171 @@
 -- From the table's value to the best plan: what the rule says of the whole day, for jobs put into number order. Assumes nothing.
-use Prim.Native.Nat.{ℕ, _+_, _≤_, _<_}
+use Prim.Native.Nat.{ℕ, _+_, _-_, _≤_, _<_}
 use mathlib.Core.Path.{_≡_, sym, ap, _∙_}
+use mathlib.Core.Logic.{inl, inr}
 use mathlib.Core.List.{List}
 use native.Mathlib.Omega.{arith}
-use lib.ListN.{length}
+use lib.ListN.{length, set}
 use lib.Seq.{ext-getD}
-use Rattle.day.specs.declared.Answer.{Answer}
+use Rattle.checks.specs.declared.Answer.{Answer}
 use Rattle.day.specs.declared.Day.{Day}
 use Rattle.day.specs.Windows.{Windows, at}
-use Rattle.day.specs.Answer.{says, done, no-plan}
-use Rattle.day.specs.Refusal.{goes-on}
+use Rattle.day.specs.Changed.{Changed, Below}
+use Rattle.checks.specs.Answer.{says, done, no-plan}
+use Rattle.checks.specs.Refusal.{goes-on}
 use Rattle.day.specs.Far.{far-price}
-use Rattle.day.specs.Zero.{zeroed}
-use Rattle.day.proofs.Cases.{give, on-le}
-use Rattle.day.proofs.Zero.{zeroed-length, zeroed-below, zeroed-beyond}
-use Rattle.rule.specs.Span.{Problem, value, read-back}
+use Rattle.checks.specs.Check.{most-jobs}
+use Rattle.checks.specs.Zero.{zeroed}
+use Rattle.day.proofs.Cases.{give, on-le, on-eq}
+use Rattle.day.proofs.Changed.{changed-one, changed-join, filled-rest}
+use Rattle.checks.proofs.Zero.{zeroed-length, zeroed-below, zeroed-beyond}
+use Rattle.rule.specs.Span.{Problem, value}
 use Rattle.rule.specs.Whole.{problem, whole-back, ByNumber, Ready}
 use Rattle.rule.proofs.Whole.{whole-none, whole-best, whole-cost, back-in-day}
-use Rattle.engine.specs.Places.{Span, place, need as places}
-use Rattle.engine.specs.Written.{Written, Rows}
-use Rattle.engine.specs.Lent.{Lent, layout-of}
+use Rattle.engine.specs.Places.{SpanIn, place, places-for}
+use Rattle.engine.specs.steps.Bands.{span-place, BandsHold}
+use Rattle.engine.specs.Lent.{Lent, layout-of, Posed}
 use Rattle.engine.specs.Filled.{Small, Filled}
-use Rattle.engine.specs.ReadBack.{Readable, Holds, ReadBack}
-use Rattle.engine.proofs.Places.{place-below, need-more}
+use Rattle.engine.specs.StartsRead.{ReadBackAsks, PlanHeld, StartsRead}
+use Rattle.engine.proofs.Places.{place-below, places-more}
+use Rattle.planner.specs.declared.Found.{Found}
 use Rattle.planner.specs.Table.{need}
-use Rattle.planner.specs.steps.Jobs.{none, slots-of, Given, Asks}
-use Rattle.planner.specs.steps.Finished.{Tabled, Laid, Finished}
-use Rattle.day.specs.Planned.{costs, none-proper, Planned, Never}
+use Rattle.planner.specs.steps.Jobs.{planner-none, LentSquare}
+use Rattle.planner.specs.steps.Finished.{Levels, Tabled, Finds, Laid, Told}
+use Rattle.checks.specs.Planned.{costs, none-proper, Planned}
+use Rattle.checks.specs.steps.Never.{Never}
 use Rattle.planner.proofs.Table.{need-square}
 use Rattle.planner.proofs.Jobs.{far-price-bounded}
-use Rattle.day.proofs.Planned.{never-clear}
+use Rattle.checks.proofs.Planned.{never-clear, best-in}
+
+-- the place of the next number is another one
+pub changed-next : {place : ℕ → ℕ} {Right : ℕ → ℕ → Type 0} {old new : List ℕ} (n v : ℕ) → ((k : ℕ) → k < n → place k ≡ place n → ⊥)
+    → place n < length old → Right n v → Changed (Below n) place Right old new → Changed (Below (n + 1)) place Right old (set new (place n) v)
+changed-next n v apart h right w =
+    changed-join {These = Below n} {Those = λ k. k ≡ n} (λ k l. on-eq k n inr (λ e. inl (omega arith))) (λ k l. omega arith) (λ k e. omega arith)
+    (λ k i l e. rw e (apart k l)) w (changed-one n v (omega (arith, w .long)) right)
 
 -- n jobs, lent to the engine
-module _ {day : Day} {G : Lent} {n : ℕ} (given : Given day G n) (old : List ℕ) (long : need (day .slots) n ≤ length old) where
+module _ {day : Day} {G : Lent} {n : ℕ} (given : LentSquare day G n) (old : List ℕ) (long : need (day .slots) n ≤ length old) where
   -- the engine has room
-  pub room : need (day .slots) n ≡ places (layout-of G) n
+  pub room : need (day .slots) n ≡ places-for (layout-of G) n
   room = sym (need-square (layout-of G) (day .slots) n (given .level))
 
-  pub room-for-prices : places (layout-of G) 0 ≤ length old
-  room-for-prices = omega (arith, room, need-more (layout-of G) 0 n (omega arith))
+  pub room-for-prices : places-for (layout-of G) 0 ≤ length old
+  room-for-prices = omega (arith, room, places-more (layout-of G) 0 n (omega arith))
 
   -- once the level of no jobs has its prices
-  module _ (priced : List ℕ) (r : Rows (layout-of G) 0 0 (G .shape .points) (far-price day) old priced) where
-    pub priced-small : Small G 0 priced
+  module _ (priced : List ℕ) (r : BandsHold (layout-of G) 0 0 (G .shape .points) (far-price day) old priced) where
+    pub priced-small : Small (layout-of G) (G .shape .none) 0 priced
     priced-small s e v =
         omega (
           arith,
           given .none,
-          r .inside s e (omega arith) (omega arith) v,
+          r .inside (s, e) (v, omega arith, omega arith),
           far-price-bounded day (omega (arith, given .jobs .wake)) s e,
         )
 
     pub tabled : (new : List ℕ) → Filled G n priced new → Tabled day G n old new
     tabled new f = record {
-      long = f .long ∙ r .long;
+      changed = record {
+        long = f .changed .long ∙ r .long;
+        inside = λ i h. tt;
+        outside = λ j m.
+            f .changed .outside j (λ i h. m i (omega (arith, room)))
+            ∙ r .outside j
+            (λ x t. m (span-place (layout-of G) 0 x)
+            (omega (arith, room, place-below (given .prepared .fits) n 0 (x .0) (x .1) (omega arith) (t .0))));
+      };
       small = f .small;
       values = λ P a. f .values P (a .posed)
-          (λ s e v. r .inside s e (omega arith) (omega arith) v ∙ sym (a .price s e));
-      beyond = λ j h.
-          f .beyond j (omega (arith, room))
-          ∙ r .outside j (λ s e b l v q. omega (
-            arith,
-            room,
-            place-below (given .lendable .fits) n 0 s e (omega arith) v,
-          ));
+          (λ s e v. r .inside (s, e) (v, omega arith, omega arith) ∙ sym (a .price s e));
     }
 
   -- once the table is filled
   module _ (new : List ℕ) (t : Tabled day G n old new) where
-    abbrev end : ℕ
-    end = day .slots + 2
-
-    pub whole-span : Span (layout-of G) 0 end
-    whole-span = (omega arith, omega (arith, given .points))
-
-    pub whole-there : place (layout-of G) n 0 end < length new
-    whole-there = omega (arith, t .long, room, place-below (given .lendable .fits) n n 0 end (omega arith) whole-span)
-
-    pub table-readable : Readable G new n
-    table-readable = record { prepared = given .lendable; room = omega (arith, t .long, room); small = t .small }
+    pub table-asks : ReadBackAsks G new n
+    table-asks = record { prepared = given .prepared; room = omega (arith, t .changed .long, room); small = t .small }
 
     -- what is set to zero doesn't matter
     pub table-cleared : (m : ℕ) (cleared : List ℕ) → m ≡ need (day .slots) n → cleared ≡ zeroed m new
         → cleared ≡ zeroed (need (day .slots) n) old
     table-cleared m cleared q c =
         c
-        ∙ ext-getD 0 (zeroed m new) (zeroed m old) (zeroed-length m new ∙ t .long ∙ sym (zeroed-length m old))
+        ∙ ext-getD 0 (zeroed m new) (zeroed m old) (zeroed-length m new ∙ t .changed .long ∙ sym (zeroed-length m old))
         (λ i h.
-        on-le m i (λ l. zeroed-beyond m new i l ∙ t .beyond i (omega arith) ∙ sym (zeroed-beyond m old i l))
+        on-le m i (λ l. zeroed-beyond m new i l ∙ filled-rest (t .changed) i (omega arith) ∙ sym (zeroed-beyond m old i l))
         (λ l. zeroed-below m new i l ∙ sym (zeroed-below m old i l)))
         ∙ ap (λ (x : ℕ). zeroed x old) q
 
-    module _ (P : Problem) (a : Asks day G n P) where
-      pub whole-read : (v : ℕ) → v ≡ at new (place (layout-of G) n 0 end) → v ≡ value P n 0 (day .slots + 2)
-      whole-read v q = q ∙ t .values P a n (omega arith) 0 end whole-span
+-- a table from which n jobs are read back, up to the last point
+module _ {G : Lent} {n : ℕ} {table : List ℕ} (asks : ReadBackAsks G table n) (some-point : 0 < G .shape .points) where
+  abbrev end : ℕ
+  end = G .shape .points - 1
 
-      pub whole-holds : value P n 0 (day .slots + 2) < none → Holds P G new n 0 end
-      whole-holds h = record {
-        posed = a .posed;
-        levels = t .values P a;
-        span = whole-span;
-        some = omega (arith, a .posed .none, given .none);
-      }
+  whole-span : SpanIn (layout-of G) 0 end
+  whole-span = (omega arith, omega arith)
 
-      -- what is read back of the whole day by number is laid out by row
-      pub laid-of : (order unread numbered starts p : List ℕ) → ReadBack P n 0 end unread numbered
-          → Written (at order) 0 n (slots-of numbered) starts p → Laid order n (read-back P n 0 end) starts p
-      laid-of order unread numbered starts p back w = record {
-        long = w .long;
-        slot = λ k h.
-            omega (
-              arith,
-              w .inside k (omega arith) h,
-              back .read k (
-                h,
-                omega arith,
-                omega (
-                  arith,
-                  a .posed .release k h,
-                  given .jobs .window k h,
-                  given .jobs .in-day k h,
-                ),
-              ),
-            );
-        others = λ j m. w .outside j (λ k l h. m k h);
-      }
+  pub whole-there : place (layout-of G) n 0 end < length table
+  whole-there = omega (arith, asks .room, place-below (asks .prepared .fits) n n 0 end (omega arith) whole-span)
+
+  pub finds-of : (found : Found) (unread : List ℕ) → found .value ≡ at table (place (layout-of G) n 0 end) → length (found .starts) ≡ most-jobs
+      → ((P : Problem) → PlanHeld P G table n 0 end → StartsRead P n 0 end unread (found .starts))
+      → (P : Problem) → Posed P G n → Levels P G n table → Finds P n end found
+  finds-of found unread q long back P posed levels = record {
+    value-is = q ∙ levels n (omega arith) 0 end whole-span;
+    long = long;
+    each = λ h k l.
+        back P (record { posed = posed; levels = levels; span = whole-span; some = h }) .inside k
+        (l, omega arith, omega (arith, posed .release k l, asks .prepared .window k l, asks .prepared .before-end k l));
+  }
+
+  -- a value of "none" leaves nothing to read back
+  pub finds-none : (found : Found) → found .value ≡ at table (place (layout-of G) n 0 end) → length (found .starts) ≡ most-jobs
+      → G .shape .none ≤ found .value
+      → (P : Problem) → Posed P G n → Levels P G n table → Finds P n end found
+  finds-none found q long none P posed levels =
+      let same : found .value ≡ value P n 0 end = q ∙ levels n (omega arith) 0 end whole-span in
+      record { value-is = same; long = long; each = λ h k l. absurd (omega (arith, posed .none)) }
 
 -- the table's value decides, and the plan read back is the best
-module _ (day : Day) (w : Windows) (order starts table : List ℕ) (R : Ready day w (at order) none) where
+module _ (day : Day) (w : Windows) (order starts table : List ℕ) (R : Ready day w (at order) planner-none) where
   abbrev P : Problem
-  P = problem day w (at order) none
+  P = problem day w (at order) planner-none
 
-  -- the starts laid out by number are those of the whole day's plan: each is a slot of the day
-  laid-back : (p : List ℕ) → value P (w .count) 0 (day .slots + 2) < none
-      → Laid order (w .count) (whole-back day w (at order) none) starts p
-      → ByNumber (w .count) (at order) (at p) (whole-back day w (at order) none)
-  laid-back p small l k h = omega (arith, l .slot k h, back-in-day day w (at order) none R small k h)
+  module _ (all : length order ≡ w .count) (found : Found) (F : Finds P (w .count) (day .slots + 2) found) (a : Answer) (p t : List ℕ)
+      (T : Told day order found starts a p) (cleared : t ≡ zeroed (need (day .slots) (w .count)) table) where
+    -- the starts laid out by number are those of the whole day's plan: each is a slot of the day
+    laid-back : value P (w .count) 0 (day .slots + 2) < planner-none → Laid order (w .count) (at (found .starts)) starts p
+        → ByNumber (w .count) (at order) (at p) (whole-back day w (at order) planner-none)
+    laid-back small l k h = omega (arith, l .inside k h, F .each small k h, back-in-day day w (at order) planner-none R small k h)
 
-  module _ (a : Answer) (p t : List ℕ) (F : Finished day P order (w .count) starts table a p t) where
-    found-planned : value P (w .count) 0 (day .slots + 2) < none → Planned Never (need (day .slots) (w .count)) day w starts table a p t
+    found-planned : value P (w .count) 0 (day .slots + 2) < planner-none → Planned Never (need (day .slots) (w .count)) day w starts table a p t
     found-planned small =
-        give (F .found small)
+        give (rw (all, F .value-is) at (T .planned (omega (arith, F .value-is))))
         (λ f.
-        let back = laid-back p small (f .1) in
-        let best = whole-best day w (at order) none R small (at p) back in
+        let back = laid-back small (f .1) in
+        let best = whole-best day w (at order) planner-none R small (at p) back in
         let code : a .code ≡ done = ap (λ (x : Answer). x .code) (f .0) in
         record {
           answer = goes-on never-clear (costs (at p) best
-              (f .0 ∙ ap (λ (v : ℕ). says done v 0) (sym (whole-cost day w (at order) none R small (at p) back))));
-          planned = λ e. record {
-            long = f .1 .long;
-            best = best;
-            later = λ i l. f .1 .others i (λ k h q. omega (arith, R .numbered .within k h));
-          };
+              (f .0 ∙ ap (λ (v : ℕ). says done v 0) (sym (whole-cost day w (at order) planner-none R small (at p) back))));
+          planned = λ e. best-in best (f .1 .long) (λ i l. f .1 .outside i (λ k h q. omega (arith, R .numbered .within k h)));
           unplanned = λ e. absurd (e code);
-          cleared = λ e. F .cleared;
+          cleared = λ e. cleared;
           kept = λ e g. absurd (e code);
         })
 
-    missing-planned : none ≤ value P (w .count) 0 (day .slots + 2) → Planned Never (need (day .slots) (w .count)) day w starts table a p t
+    missing-planned : planner-none ≤ value P (w .count) 0 (day .slots + 2) → Planned Never (need (day .slots) (w .count)) day w starts table a p t
     missing-planned h =
-        give (F .not-found h)
+        give (T .unplanned (omega (arith, F .value-is)))
         (λ f.
         let code : a .code ≡ no-plan = ap (λ (x : Answer). x .code) (f .0) in
         record {
-          answer = goes-on never-clear (none-proper (whole-none day w (at order) none R h) (f .0));
+          answer = goes-on never-clear (none-proper (whole-none day w (at order) planner-none R h) (f .0));
           planned = λ e. absurd (omega arith);
           unplanned = λ e. f .1;
-          cleared = λ e. F .cleared;
+          cleared = λ e. cleared;
           kept = λ e g. absurd (g code);
         })
 
     pub finished-planned : Planned Never (need (day .slots) (w .count)) day w starts table a p t
-    finished-planned = on-le none (value P (w .count) 0 (day .slots + 2)) missing-planned found-planned
+    finished-planned = on-le planner-none (value P (w .count) 0 (day .slots + 2)) missing-planned found-planned

@@ -6,6 +6,7 @@ use native.Mathlib.Omega.{arith}
 use lib.ListN.{length}
 use Rattle.day.specs.declared.Day.{Day}
 use Rattle.day.specs.Windows.{at}
+use Rattle.day.specs.Changed.{FirstFilled}
 use Rattle.day.specs.Far.{far-price}
 use Rattle.day.proofs.Cases.{on-eq}
 use Rattle.day.proofs.Gap.{price-at-most-wake}
@@ -13,39 +14,38 @@ use Rattle.day.proofs.Far.{far-price-start, far-price-end, far-price-inside}
 use Rattle.rule.specs.Span.{Problem}
 use Rattle.engine.specs.declared.Shape.{Shape}
 use Rattle.engine.specs.Places.{square-begins}
-use Rattle.engine.specs.Written.{Written, itself}
 use Rattle.engine.specs.Lent.{Lent, lent}
-use Rattle.engine.specs.Marks.{Marked}
+use Rattle.engine.specs.Marks.{MarkedBy}
 use Rattle.engine.proofs.Places.{square-fits}
 use Rattle.engine.proofs.Marks.{marks-count, marks-counted}
-use Rattle.planner.specs.steps.Jobs.{none, Prepared, ProblemOf, Given, Asks}
+use Rattle.planner.specs.steps.Jobs.{planner-none, WithinLimits, ProblemOf, LentSquare, PosedAtPrices}
 
-pub far-price-bounded : (day : Day) → day .power .wake ≤ none → (s e : ℕ) → far-price day s e ≤ none
+pub far-price-bounded : (day : Day) → day .power .wake ≤ planner-none → (s e : ℕ) → far-price day s e ≤ planner-none
 far-price-bounded day wake s e =
     on-eq s 0 (λ q. rw q (omega (arith, far-price-start day e)))
     (λ q. on-eq e (day .slots + 2) (λ z. omega (arith, far-price-end day s e z))
     (λ z. omega (arith, far-price-inside day s e q z, price-at-most-wake (day .power) (e - s))))
 
 -- n jobs in number order, lent to the engine with a square of the day's points
-module _ {day : Day} {rel dead : List ℕ} {n : ℕ} (p : Prepared day rel dead n) (shape : Shape) (begins₀ begins marks₀ marks : List ℕ)
-    (size : (shape .points ≡ day .slots + 3) × (shape .level ≡ (day .slots + 3) * (day .slots + 3)) × (shape .none ≡ none))
-    (rows : Written itself 0 (day .slots + 3) (square-begins (day .slots + 3)) begins₀ begins) (m : Marked rel 0 n marks₀ marks)
+module _ {day : Day} {rel dead : List ℕ} {n : ℕ} (p : WithinLimits day rel dead n) (shape : Shape) (begins₀ begins marks₀ marks : List ℕ)
+    (size : (shape .points ≡ day .slots + 3) × (shape .level ≡ (day .slots + 3) * (day .slots + 3)) × (shape .none ≡ planner-none))
+    (bands : FirstFilled (day .slots + 3) (λ s y. y ≡ square-begins (day .slots + 3) s) begins₀ begins) (m : MarkedBy rel 0 n marks₀ marks)
     (begins-long : day .slots + 3 ≤ length begins₀) (marks-long : day .slots + 3 ≤ length marks₀) where
   abbrev G : Lent
   G = lent shape begins rel dead marks
 
-  pub given-of : Given day G n
+  pub given-of : LentSquare day G n
   given-of = record {
     jobs = p;
     points = size .0;
     level = size .1;
     none = size .2;
-    lendable = record {
+    prepared = record {
       fits = square-fits (record { points = shape .points; level = shape .level; begins = at begins }) (rw (size .0) (size .1))
-          (λ s h. rw (size .0) (rows .inside s (omega arith) (omega (arith, size .0))));
+          (λ s h. rw (size .0) (bands .inside s (omega (arith, size .0))));
       few-points = omega (arith, size .0, p .slots);
       small-none = omega (arith, size .2);
-      rows = omega (arith, size .0, rows .long);
+      bands = omega (arith, size .0, bands .long);
       releases = p .releases;
       deadlines = p .deadlines;
       marked = omega (arith, size .0, m .long);
@@ -54,7 +54,7 @@ module _ {day : Day} {rel dead : List ℕ} {n : ℕ} (p : Prepared day rel dead 
     };
   }
 
-  pub asks-of : ((t : ℕ) → t < length marks₀ → 0 < at marks₀ t) → (P : Problem) → ProblemOf day rel dead n P → Asks day G n P
+  pub asks-of : ((t : ℕ) → t < length marks₀ → 0 < at marks₀ t) → (P : Problem) → ProblemOf day rel dead n P → PosedAtPrices day G n P
   asks-of every P o = record {
     price = o .price;
     posed = record {

@@ -2,5 +2,6 @@
 pub mod Table
 pub mod Jobs
 pub mod Promise
+pub mod Unique
 pub mod Finished
 pub mod Accepted

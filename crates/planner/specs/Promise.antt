@@ -2,13 +2,13 @@
 use Prim.Native.Nat.{ℕ, _<_}
 use mathlib.Core.List.{List}
 use lib.ListN.{length}
-use Rattle.day.specs.declared.Answer.{Answer}
+use Rattle.checks.specs.declared.Answer.{Answer}
 use Rattle.day.specs.declared.Day.{Day}
 use Rattle.day.specs.Windows.{Windows}
-use Rattle.day.specs.Answer.{few-starts, short-table}
-use Rattle.day.specs.Refusal.{_then_, Refuses}
-use Rattle.day.specs.Check.{ListCheck}
-use Rattle.day.specs.Planned.{Planned}
+use Rattle.checks.specs.Answer.{few-starts, short-table}
+use Rattle.checks.specs.Refusal.{_then_, Refuses}
+use Rattle.checks.specs.Check.{ListCheck}
+use Rattle.checks.specs.Planned.{Planned}
 use Rattle.planner.specs.Table.{need}
 
 -- codes 1 to 6

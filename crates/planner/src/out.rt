@@ -3,8 +3,7 @@ ghost use mathlib.Core.Path.{_≡_};
 ghost use Prim.Native.Nat.{ℕ, _-_, _<_, _≤_};
 ghost use lib.ListN.{length};
 ghost use Rattle.day.specs.Windows.{at};
-ghost use Rattle.engine.specs.Written.{Written};
-ghost use Rattle.planner.specs.steps.Jobs.{slots-of};
+ghost use Rattle.planner.specs.steps.Finished.{Laid};
 
 // The slot of a point; the far point 0 has none, and gives 0.
 fn slot_of(point: u16) -> u16
@@ -21,7 +20,7 @@ pub(crate) fn write_out(starts: &mut [u16], order: &[usize], numbered: &[u16])
     requires { ⌜ length (now order) ≤ length (now numbered) ⌝ }
     requires { ⌜ ((k : ℕ) → k < length (now order) → at (now order) k < length (now starts)) ⌝ }
     requires { ⌜ ((k l : ℕ) → k < l → l < length (now order) → at (now order) k ≡ at (now order) l → ⊥) ⌝ }
-    ensures { λ _. ⌜ Written (at (now (order .entry))) 0 (length (now (order .entry))) (slots-of (now (numbered .entry))) (now (starts .entry)) (now (starts .exit)) ⌝ }
+    ensures { λ _. ⌜ Laid (now (order .entry)) (length (now (order .entry))) (at (now (numbered .entry))) (now (starts .entry)) (now (starts .exit)) ⌝ }
 {
     let mut number = 0;
     while number < order.len() {

@@ -1,6 +1,3 @@
--- The laws of the definitions in specs/.
-pub mod Decimal
-pub mod Append
-pub mod Lines
+-- The laws of planning a file.
 pub mod File
 pub mod Unique

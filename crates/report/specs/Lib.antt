@@ -1,5 +1,3 @@
--- What the program promises: numbers as digits, bytes put one after the other, the printed lines, and planning a file.
-pub mod Decimal
-pub mod Append
-pub mod Lines
+-- What planning a file and the program's text promise.
 pub mod File
+pub mod steps

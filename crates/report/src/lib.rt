@@ -1,14 +1,13 @@
 // A day file's bytes to the text that the program prints; no system call.
-pub mod text;
-
-use day::Answer;
+use checks::Answer;
+use checks::code;
 use day::Day;
-use day::code;
 use ledger::Counts;
 use text::Text;
 ghost use mathlib.Core.Path.{_≡_};
 ghost use Rattle.day.specs.Windows.{windows};
-ghost use Rattle.report.specs.File.{no-outcome, RowsReported, FileReported, FilePrinted};
+ghost use Rattle.report.specs.File.{no-outcome, FilePromise, InputReported, ReportPromise};
+ghost use Rattle.report.specs.steps.Rows.{RowsReported};
 
 // The program's input has at most this many bytes.
 const MOST_BYTES: usize = 4096;
@@ -20,22 +19,29 @@ pub struct Outcome {
     pub counts: Counts,
 }
 
-// The text for a day file's bytes.
+// The program's text for its input, a day file's bytes.
 pub fn report(file: &[u8], table: &mut [u16]) -> Text
-    ensures { λ text. ⌜ FilePrinted (now (file .entry)) (now (table .entry)) text (now (table .exit)) ⌝ }
+    ensures { λ text. ⌜ ReportPromise (now (file .entry)) (now (table .entry)) text (now (table .exit)) ⌝ }
 {
     let mut starts = [0u16; 40];
-    let outcome = plan_file(file, &mut starts, table);
+    let outcome = plan_input(file, &mut starts, table);
     text::render(outcome.answer, outcome.count, &starts, outcome.counts)
 }
 
-// Plans a day file. Its rows are planned as the planner plans a list, and the plan found is counted by slots.
-pub fn plan_file(file: &[u8], starts: &mut [u16], table: &mut [u16]) -> Outcome
-    ensures { λ o. ⌜ FileReported (now (file .entry)) (now (starts .entry)) (now (table .entry)) o (now (starts .exit)) (now (table .exit)) ⌝ }
+// Plans the program's input, where it is not too long.
+fn plan_input(file: &[u8], starts: &mut [u16], table: &mut [u16]) -> Outcome
+    ensures { λ o. ⌜ InputReported (now (file .entry)) (now (starts .entry)) (now (table .entry)) o (now (starts .exit)) (now (table .exit)) ⌝ }
 {
     if file.len() > MOST_BYTES {
         return refusal(Answer::of(code::LONG_INPUT));
     }
+    plan_file(file, starts, table)
+}
+
+// Plans a day file. Its rows are planned as the planner plans a list, and the plan found is counted by slots.
+pub fn plan_file(file: &[u8], starts: &mut [u16], table: &mut [u16]) -> Outcome
+    ensures { λ o. ⌜ FilePromise (now (file .entry)) (now (starts .entry)) (now (table .entry)) o (now (starts .exit)) (now (table .exit)) ⌝ }
+{
     let mut releases = [0u16; 40];
     let mut deadlines = [0u16; 40];
     let reading = dayfile::read(file, &mut releases, &mut deadlines);
@@ -67,8 +73,8 @@ fn plan_rows(
     if answer.code != code::DONE {
         return refusal(answer);
     }
-    let columns = ledger::ledger(day, releases, deadlines, starts);
-    let counts = columns.counts;
+    let counted = ledger::ledger(day, releases, deadlines, starts);
+    let counts = counted.counts;
     Outcome {
         answer,
         count: releases.len() as u16,

@@ -10,13 +10,13 @@ use lib.Seq.{length-take-le, take-suc, take-suc-set, take-all}
 use Rattle.day.proofs.Cases.{on-le}
 use Rattle.day.specs.declared.Job.{Job}
 use Rattle.day.specs.Windows.{Windows, at, windows}
-use Rattle.day.specs.Check.{most-jobs}
+use Rattle.checks.specs.Check.{most-jobs}
 use Rattle.rows.specs.declared.Rows.{Rows}
-use Rattle.rows.specs.Rows.{none, copied, no-rows, with-job, rows-from, rows-of, releases-in, deadlines-in, windows-in, Placed}
+use Rattle.rows.specs.Rows.{no-job, copy-count, no-rows, with-job, rows-from, rows-of, releases-in, deadlines-in, windows-in, RowsFit}
 use Rattle.rows.specs.Columns.{releases, deadlines, windows-of}
 
 -- a number of each record of a list, which is 0 of the record that stands for none
-pub at-column : (f : Job → ℕ) → f none ≡ 0 → (jobs : List Job) (i : ℕ) → at (map f jobs) i ≡ f (getD jobs i none)
+pub at-column : (f : Job → ℕ) → f no-job ≡ 0 → (jobs : List Job) (i : ℕ) → at (map f jobs) i ≡ f (getD jobs i no-job)
 at-column f e [] i = sym e
 at-column f e (job ∷ jobs) zero = refl
 at-column f e (job ∷ jobs) (suc i) = at-column f e jobs i
@@ -25,31 +25,31 @@ rows-count : (rows : Rows) (k : ℕ) (jobs : List Job) → rows-from rows k jobs
 rows-count rows zero jobs = refl
 rows-count rows (suc k) jobs = rows-count rows k jobs
 
-pub copied-count : (from : ℕ) (jobs : List Job) → rows-of from jobs .count ≡ copied (length jobs) from
-copied-count from jobs = rows-count (no-rows (copied (length jobs) from)) (copied (length jobs) from) (drop from jobs)
+pub copied-count : (from : ℕ) (jobs : List Job) → rows-of from jobs .count ≡ copy-count (length jobs) from
+copied-count from jobs = rows-count (no-rows (copy-count (length jobs) from)) (copy-count (length jobs) from) (drop from jobs)
 
 -- either column: the number that a record has in it, and where rows have it
-module _ (f : Job → ℕ) (nothing : f none ≡ 0) (column : Rows → List ℕ) (places : (n : ℕ) → length (column (no-rows n)) ≡ 41) (sets : (rows : Rows) (i : ℕ) (job : Job) → column (with-job rows i job) ≡ set (column rows) i (f job)) where
+module _ (f : Job → ℕ) (nothing : f no-job ≡ 0) (column : Rows → List ℕ) (places : (n : ℕ) → length (column (no-rows n)) ≡ 41) (sets : (rows : Rows) (i : ℕ) (job : Job) → column (with-job rows i job) ≡ set (column rows) i (f job)) where
   column-long : (rows : Rows) (k : ℕ) (jobs : List Job) → length (column (rows-from rows k jobs)) ≡ length (column rows)
   column-long rows zero jobs = refl
   column-long rows (suc k) jobs =
-      ap length (sets (rows-from rows k jobs) k (getD jobs k none)) ∙ length-set (column (rows-from rows k jobs)) k (f (getD jobs k none)) ∙ column-long rows k jobs
+      ap length (sets (rows-from rows k jobs) k (getD jobs k no-job)) ∙ length-set (column (rows-from rows k jobs)) k (f (getD jobs k no-job)) ∙ column-long rows k jobs
 
   column-is : (rows : Rows) (k : ℕ) (jobs : List Job) → k ≤ length (column rows) → k ≤ length jobs → take k (column (rows-from rows k jobs)) ≡ take k (map f jobs)
   column-is rows zero jobs h l = refl
   column-is rows (suc k) jobs h l =
-      ap (take (suc k)) (sets (rows-from rows k jobs) k (getD jobs k none))
-      ∙ take-suc-set (column (rows-from rows k jobs)) k (f (getD jobs k none)) (omega (arith, column-long rows k jobs))
-      ∙ ap (λ (xs : List ℕ). xs ++ (f (getD jobs k none) ∷ [])) (column-is rows k jobs (omega arith) (omega arith))
+      ap (take (suc k)) (sets (rows-from rows k jobs) k (getD jobs k no-job))
+      ∙ take-suc-set (column (rows-from rows k jobs)) k (f (getD jobs k no-job)) (omega (arith, column-long rows k jobs))
+      ∙ ap (λ (xs : List ℕ). xs ++ (f (getD jobs k no-job) ∷ [])) (column-is rows k jobs (omega arith) (omega arith))
       ∙ ap (λ (x : ℕ). take k (map f jobs) ++ (x ∷ [])) (sym (at-column f nothing jobs k))
       ∙ sym (take-suc (map f jobs) k 0 (omega (arith, length-map jobs f)))
 
   module _ (from : ℕ) (jobs : List Job) where
     abbrev n : ℕ
-    n = copied (length jobs) from
+    n = copy-count (length jobs) from
 
-    column-placed : rows-of from jobs .count ≤ length (column (rows-of from jobs))
-    column-placed = omega (arith, copied-count from jobs, column-long (no-rows n) n (drop from jobs), places n, min-le-left 41 (length jobs - from))
+    column-fits : rows-of from jobs .count ≤ length (column (rows-of from jobs))
+    column-fits = omega (arith, copied-count from jobs, column-long (no-rows n) n (drop from jobs), places n, min-le-left 41 (length jobs - from))
 
     -- a list's first n are its first 41, where it has no more
     first : (xs : List ℕ) → length xs ≡ length jobs - from → take n xs ≡ take 41 xs
@@ -70,11 +70,11 @@ module _ (from : ℕ) (jobs : List Job) where
   pub copied-deadlines : deadlines-in (rows-of from jobs) ≡ take 41 (deadlines (drop from jobs))
   copied-deadlines = column-copied (λ job. job .deadline) refl (λ rows. rows .deadlines) (λ _. refl) (λ rows i job. refl) from jobs
 
-  pub rows-placed : Placed (rows-of from jobs)
-  rows-placed =
+  pub rows-fit : RowsFit (rows-of from jobs)
+  rows-fit =
       record {
-        releases = column-placed (λ job. job .release) refl (λ rows. rows .releases) (λ _. refl) (λ rows i job. refl) from jobs;
-        deadlines = column-placed (λ job. job .deadline) refl (λ rows. rows .deadlines) (λ _. refl) (λ rows i job. refl) from jobs;
+        releases = column-fits (λ job. job .release) refl (λ rows. rows .releases) (λ _. refl) (λ rows i job. refl) from jobs;
+        deadlines = column-fits (λ job. job .deadline) refl (λ rows. rows .deadlines) (λ _. refl) (λ rows i job. refl) from jobs;
       }
 
 -- a whole list
@@ -92,11 +92,11 @@ module _ (jobs : List Job) where
   many-rows h = omega (arith, ap length (copied-releases 0 jobs), length-take-le 41 (releases jobs) (omega (arith, length-map jobs (λ job. job .release))))
 
   -- what is promised of its rows is promised of it, where it is promised of any more than 40 rows alike
-  pub listed : (P : List ℕ → List ℕ → Type 0) → ((xs ys xs′ ys′ : List ℕ) → most-jobs < length xs → most-jobs < length xs′ → P xs ys → P xs′ ys′)
+  pub list-promised : (P : List ℕ → List ℕ → Type 0) → ((xs ys xs′ ys′ : List ℕ) → most-jobs < length xs → most-jobs < length xs′ → P xs ys → P xs′ ys′)
       → P (releases-in (rows-of 0 jobs)) (deadlines-in (rows-of 0 jobs)) → P (releases jobs) (deadlines jobs)
-  listed P alike p =
+  list-promised P alike p =
       on-le (length jobs) most-jobs (λ h. rw (sym (few-releases h), sym (few-deadlines h)) p)
       (λ h. alike (releases-in (rows-of 0 jobs)) (deadlines-in (rows-of 0 jobs)) (releases jobs) (deadlines jobs) (many-rows h) (omega (arith, length-map jobs (λ job. job .release))) p)
 
-  pub windows-listed : (P : Windows → Type 0) → ((w v : Windows) → most-jobs < w .count → most-jobs < v .count → P w → P v) → P (windows-in (rows-of 0 jobs)) → P (windows-of jobs)
-  windows-listed P alike = listed (λ xs ys. P (windows xs ys)) (λ xs ys xs′ ys′. alike (windows xs ys) (windows xs′ ys′))
+  pub windows-promised : (P : Windows → Type 0) → ((w v : Windows) → most-jobs < w .count → most-jobs < v .count → P w → P v) → P (windows-in (rows-of 0 jobs)) → P (windows-of jobs)
+  windows-promised P alike = list-promised (λ xs ys. P (windows xs ys)) (λ xs ys xs′ ys′. alike (windows xs ys) (windows xs′ ys′))

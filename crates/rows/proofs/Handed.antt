@@ -28,11 +28,11 @@ use denote.Triple.Entry.{Args, Res, onEntry}
 use denote.Triple.Spec.{Meets, tripleOf}
 use denote.Triple.Table.{entered}
 use Rattle.rows.specs.declared.Rows.{Rows}
-use Rattle.rows.specs.Rows.{rows-of, Placed}
-use Rattle.rows.proofs.Copied.{rows-placed}
+use Rattle.rows.specs.Rows.{rows-of, RowsFit}
+use Rattle.rows.proofs.Copied.{rows-fit}
 use Rattle.rows.proofs.Setting.{Typed, gets, R, S, rowsTy, rules, calls, loops, frames}
 use Rattle.rows.proofs.Params.{Param, the-list, the-rows, slots, kinds, spelled, told, vals, Typeds, all-typed, list-in, on-rows, vals-with, others, list-out, rows-back}
-use Rattle.rows.proofs.Copies.{copies}
+use Rattle.rows.proofs.CopyCall.{copies}
 use Rattle.rows.proofs.copy_out.Symbol as copy-out-def
 use Rattle.rows.proofs.copy_out.Symbol.{name as #copy-out}
 
@@ -79,7 +79,7 @@ module _ {M : Type 1} (𝓤 : URA M) (H : Heap 𝓤) (𝓜 : Model 𝓤 H) (𝓖
 
       -- the two calls, from what the entry point has: G is what g leaves
       both : (g : Name) (G K : Val → SProp 𝓤)
-          → ((v : Val) → ent 𝓤 (sep 𝓤 (sep 𝓤 Toks (sem 𝓤 H A (owns (kinds (bs ++ the-rows ∷ ss) κs) (on-rows κs ss bs a) (vals-with κs ss bs a v)))) (fact 𝓤 (Placed rows))) (C g (flat (kinds (bs ++ the-rows ∷ ss) κs) (vals-with κs ss bs a v)) G))
+          → ((v : Val) → ent 𝓤 (sep 𝓤 (sep 𝓤 Toks (sem 𝓤 H A (owns (kinds (bs ++ the-rows ∷ ss) κs) (on-rows κs ss bs a) (vals-with κs ss bs a v)))) (fact 𝓤 (RowsFit rows))) (C g (flat (kinds (bs ++ the-rows ∷ ss) κs) (vals-with κs ss bs a v)) G))
           → ((w : Val) → ent 𝓤 (sep 𝓤 (G w) (A .lft (κs .0) (qs .0))) (H .⇛ (guard 𝓤 (Typed (X .ty) w) (K w))))
           → ent 𝓤 (onEntry 𝓤 H A (T .signature) κs qs a (vals ps κs a))
           (gets 𝓤 H C #copy-out (the-list {n = n} .val κs (list-in κs ss bs a) ∷ vint w64 0 ∷ []) rowsTy (λ v. gets 𝓤 H C g (flat (kinds (bs ++ the-rows ∷ ss) κs) (vals-with κs ss bs a v)) (X .ty) K))
@@ -89,14 +89,14 @@ module _ {M : Type 1} (𝓤 : URA M) (H : Heap 𝓤) (𝓜 : Model 𝓤 H) (𝓖
           by ! (copies 𝓤 H 𝓜 𝓖 𝓡 env means (κs .0) (qs .0) (list-in κs ss bs a) 0 (lit< tt) (‵ (others κs ss bs a) ⊛ raw Toks) (λ v. gets 𝓤 H C g (flat (kinds (bs ++ the-rows ∷ ss) κs) (vals-with κs ss bs a v)) (X .ty) K) (λ v.
           qed W (‵ (S .own rows (v ∷ [])) ∷ ‵ (flft (κs .0) (qs .0)) ∷ (‵ (others κs ss bs a) ⊛ raw Toks) ∷ []) ∵ updating ! $ at-once ! $ move ! (2 ∷ []) $ split ! $ move ! (2 ∷ 0 ∷ []) $
           use2 W (‵ (owns (kinds (bs ++ the-rows ∷ ss) κs) (on-rows κs ss bs a) (vals-with κs ss bs a v))) (rows-back κs ss 𝓤 H A bs a rows v) $ move ! (1 ∷ 0 ∷ []) $ join ! $
-          use0 W (raw (fact 𝓤 (Placed rows))) (factI 𝓤 (Placed rows) (emp 𝓤) (rows-placed 0 (now (list-in κs ss bs a)))) $ move ! (1 ∷ 0 ∷ []) $ join ! $ use1 W (raw (C g (flat (kinds (bs ++ the-rows ∷ ss) κs) (vals-with κs ss bs a v)) G)) (met v) $
+          use0 W (raw (fact 𝓤 (RowsFit rows))) (factI 𝓤 (RowsFit rows) (emp 𝓤) (rows-fit 0 (now (list-in κs ss bs a)))) $ move ! (1 ∷ 0 ∷ []) $ join ! $ use1 W (raw (C g (flat (kinds (bs ++ the-rows ∷ ss) κs) (vals-with κs ss bs a v)) G)) (met v) $
           by ! (frames 𝓤 H 𝓜 𝓖 𝓡 env g (flat (kinds (bs ++ the-rows ∷ ss) κs) (vals-with κs ss bs a v)) G (λ w. H .⇛ (guard 𝓤 (Typed (X .ty) w) (K w))) (A .lft (κs .0) (qs .0)) leaves)))
 
   module _ (g : Name) (φ : (κs : Lfts (suc n)) (a : Args (T .signature) κs) → Res (T .signature) κs → Lasts T κs a → SProp 𝓤) (c : Clauses 𝓤 T) (fn : Fn) where
     -- g, on the rows of the list, promises φ
     abbrev Promises : Type 1
     Promises = (κs : Lfts (suc n)) (qs : Shares n) (a : Args (T .signature) κs) (v : Val)
-        → ent 𝓤 (sep 𝓤 (sep 𝓤 (toks 𝓤 A n (κs .1) qs) (sem 𝓤 H A (owns (kinds (bs ++ the-rows ∷ ss) κs) (on-rows κs ss bs a) (vals-with κs ss bs a v)))) (fact 𝓤 (Placed (rows κs a))))
+        → ent 𝓤 (sep 𝓤 (sep 𝓤 (toks 𝓤 A n (κs .1) qs) (sem 𝓤 H A (owns (kinds (bs ++ the-rows ∷ ss) κs) (on-rows κs ss bs a) (vals-with κs ss bs a v)))) (fact 𝓤 (RowsFit (rows κs a))))
         (C g (flat (kinds (bs ++ the-rows ∷ ss) κs) (vals-with κs ss bs a v)) (Left κs a (φ κs a) (toks 𝓤 A n (κs .1) qs)))
 
     -- the entry point's MIR runs `copy_out` and then g

@@ -1,15 +1,15 @@
 -- The laws of the definitions in specs/, and what an entry point over records takes of the logic: its two calls, and what they leave.
 pub mod Columns
 pub mod Copied
-pub mod Put
+pub mod PutOver
 pub mod TooMany
-pub mod Counted
+pub mod CountedLoop
 pub mod Setting
 pub mod Lines
 pub mod Locals
 pub mod Runs
-pub mod Copies
+pub mod CopyCall
 pub mod Params
 pub mod Handed
 pub mod Shared
-pub mod Puts
+pub mod PutCall

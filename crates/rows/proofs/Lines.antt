@@ -59,9 +59,9 @@ abbrev pub local-types : List Local → List Ty
 local-types [] = []
 local-types (local τ h ∷ ls) = τ ∷ local-types ls
 
-abbrev pub blank : List Local → Held
-blank [] = []
-blank (l ∷ ls) = none ∷ blank ls
+abbrev pub nothing-held : List Local → Held
+nothing-held [] = []
+nothing-held (l ∷ ls) = none ∷ nothing-held ls
 
 abbrev pub passed : List Val → Held → Held
 passed [] st = st
@@ -71,7 +71,7 @@ passed (v ∷ vs) (c ∷ st) = some v ∷ passed vs st
 -- what a function's locals hold at first, and that its arguments are of the types of those that hold them
 abbrev pub start : List Local → List Val → Held
 start [] vs = []
-start (l ∷ ls) vs = none ∷ passed vs (blank ls)
+start (l ∷ ls) vs = none ∷ passed vs (nothing-held ls)
 
 abbrev pub Fits : List Ty → List Val → Type 0
 Fits τs [] = Unit {0}

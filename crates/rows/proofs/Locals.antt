@@ -16,7 +16,7 @@ use prog.Wp.{Heap, Env, noLocal, write, alloc, pass, release}
 use ghost.Atoms.{Atoms}
 use types.Kit.{Given, Item, ‵, raw, _⊛_, ⋆, _$_, _∵_, !, qed, by, move, use1, use2, split, join, rewrite, assume, check, frame, done}
 use Rattle.rows.proofs.Setting.{Typed, ahead}
-use Rattle.rows.proofs.Lines.{Held, local-types, blank, passed, Fits}
+use Rattle.rows.proofs.Lines.{Held, local-types, nothing-held, passed, Fits}
 
 abbrev pub types-of : List (Ty × ℕ) → List Ty
 types-of E = map (λ (e : Ty × ℕ). e .0) E
@@ -78,12 +78,12 @@ module _ {M : Type 1} (𝓤 : URA M) (H : Heap 𝓤) (A : Atoms 𝓤) (W : Given
       join ! $ use2 W (raw (Mem E (set st i (some v)))) (back E st i (some v)) $ move ! (1 ∷ 0 ∷ []) $ by ! h
 
   -- at first every local is made, and the arguments are stored
-  pub made : (ls : List Local) (P : SProp 𝓤) (Q : Env 𝓤 H → SProp 𝓤) → ((E : Env 𝓤 H) → types-of E ≡ local-types ls → ent 𝓤 (sep 𝓤 P (Mem E (blank ls))) (Q E)) → ent 𝓤 P (alloc 𝓤 H ls Q)
+  pub made : (ls : List Local) (P : SProp 𝓤) (Q : Env 𝓤 H → SProp 𝓤) → ((E : Env 𝓤 H) → types-of E ≡ local-types ls → ent 𝓤 (sep 𝓤 P (Mem E (nothing-held ls))) (Q E)) → ent 𝓤 P (alloc 𝓤 H ls Q)
   made [] P Q h = via 𝓤 (sep 𝓤 (emp 𝓤) P) (emp∗ 𝓤 P) (via 𝓤 (sep 𝓤 P (emp 𝓤)) (comm∗ 𝓤 (emp 𝓤) P) (h [] refl))
   made (local τ m ∷ ls) P Q h =
       allI 𝓤 (λ (b : ℕ). wand 𝓤 (Cell (τ, b) none) (alloc 𝓤 H ls (λ E. Q ((τ, b) ∷ E)))) (λ b.
       wandI 𝓤 P (Cell (τ, b) none) (alloc 𝓤 H ls (λ E. Q ((τ, b) ∷ E))) (made ls (sep 𝓤 P (Cell (τ, b) none)) (λ E. Q ((τ, b) ∷ E)) (λ E e.
-      via 𝓤 (sep 𝓤 P (sep 𝓤 (Cell (τ, b) none) (Mem E (blank ls)))) (assoc∗ 𝓤 P (Cell (τ, b) none) (Mem E (blank ls))) (h ((τ, b) ∷ E) (ap (λ (τs : List Ty). τ ∷ τs) e)))))
+      via 𝓤 (sep 𝓤 P (sep 𝓤 (Cell (τ, b) none) (Mem E (nothing-held ls)))) (assoc∗ 𝓤 P (Cell (τ, b) none) (Mem E (nothing-held ls))) (h ((τ, b) ∷ E) (ap (λ (τs : List Ty). τ ∷ τs) e)))))
 
   pub stored : (E : Env 𝓤 H) (st : Held) (vs : List Val) (P Q : SProp 𝓤) → Fits (types-of E) vs → ent 𝓤 (sep 𝓤 P (Mem E (passed vs st))) Q → ent 𝓤 (sep 𝓤 P (Mem E st)) (pass 𝓤 H E vs Q)
   stored E st [] P Q t h = h

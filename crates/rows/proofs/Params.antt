@@ -23,8 +23,8 @@ use denote.Signature.{Slot, plain, shrSlice, mutSlice, typesAt}
 use Rattle.day.specs.declared.Job.{Job}
 use Rattle.day.proofs.Day as D
 use Rattle.day.proofs.Day.Laws as D′
-use Rattle.day.proofs.Answer as N
-use Rattle.day.proofs.Answer.Laws as N′
+use Rattle.checks.proofs.Answer as N
+use Rattle.checks.proofs.Answer.Laws as N′
 use Rattle.rows.specs.declared.Rows.{Rows}
 use Rattle.rows.specs.Rows.{rows-of}
 use Rattle.rows.proofs.Setting.{Typed, R, S, ahead}

@@ -27,7 +27,7 @@ use types.Kit.{Given, Item, atRet, ‵, raw, later, given, ⋆, Go, _$_, _∵_, 
 use types.Run.{Reads, look, well-typed, exec}
 use types.Part.{whole, sub, look-in}
 use Rattle.rows.proofs.Setting.{Typed, gets, rules, calls as calls-of, loops, frames}
-use Rattle.rows.proofs.Lines.{Arg, the, part-of, literal, Rhs, same, pack, pointer, Line, calls, sets, operand, rvalue, body, Held, local-types, blank, passed, start, Fits, Fitting, fieldsOf, only-if, holds, found, ty, local-at, value, values, rhs, asks}
+use Rattle.rows.proofs.Lines.{Arg, the, part-of, literal, Rhs, same, pack, pointer, Line, calls, sets, operand, rvalue, body, Held, local-types, nothing-held, passed, start, Fits, Fitting, fieldsOf, only-if, holds, found, ty, local-at, value, values, rhs, asks}
 use Rattle.rows.proofs.Locals.{types-of, type-at, Cell, Mem, Rest, no-first, no-second, written, made, stored, freed, Beside, cell-out, cell-back}
 
 is-struct : (ν : Sym) (τs : Tys) (v : Val) → T (hasTy (tyStruct ν τs) v) → v ≡ vstruct (fieldsOf v)
@@ -174,12 +174,12 @@ module _ {M : Type 1} (𝓤 : URA M) (H : Heap 𝓤) (A : Atoms 𝓤) (W : Given
         Asked : SProp 𝓤
         Asked = asks 𝓤 H C (local-types (local τ m ∷ ls)) (start (local τ m ∷ ls) vs) lines K
 
-        entered : (E : Env 𝓤 H) → types-of E ≡ local-types (local τ m ∷ ls) → ent 𝓤 (sep 𝓤 (H .⇛ Asked) (Mem 𝓤 H A W E (blank (local τ m ∷ ls)))) (params 𝓤 H E vs (Run E))
+        entered : (E : Env 𝓤 H) → types-of E ≡ local-types (local τ m ∷ ls) → ent 𝓤 (sep 𝓤 (H .⇛ Asked) (Mem 𝓤 H A W E (nothing-held (local τ m ∷ ls)))) (params 𝓤 H E vs (Run E))
         entered [] e = no-second 𝓤 H A W (H .⇛ Asked) (never 𝓤)
         entered (o ∷ E) e =
-            via 𝓤 (sep 𝓤 (sep 𝓤 (H .⇛ Asked) (Cell 𝓤 H A W o none)) (Mem 𝓤 H A W E (blank ls))) (assoc′ 𝓤 (H .⇛ Asked) (Cell 𝓤 H A W o none) (Mem 𝓤 H A W E (blank ls)))
-            (stored 𝓤 H A W E (blank ls) vs (sep 𝓤 (H .⇛ Asked) (Cell 𝓤 H A W o none)) (Run (o ∷ E)) (subst (λ (τs : List Ty). Fits τs vs) (sym (tail-eq-of-cons-eq e)) t)
-            (via 𝓤 (sep 𝓤 (H .⇛ Asked) (Mem 𝓤 H A W (o ∷ E) (start (local τ m ∷ ls) vs))) (assoc∗ 𝓤 (H .⇛ Asked) (Cell 𝓤 H A W o none) (Mem 𝓤 H A W E (passed vs (blank ls))))
+            via 𝓤 (sep 𝓤 (sep 𝓤 (H .⇛ Asked) (Cell 𝓤 H A W o none)) (Mem 𝓤 H A W E (nothing-held ls))) (assoc′ 𝓤 (H .⇛ Asked) (Cell 𝓤 H A W o none) (Mem 𝓤 H A W E (nothing-held ls)))
+            (stored 𝓤 H A W E (nothing-held ls) vs (sep 𝓤 (H .⇛ Asked) (Cell 𝓤 H A W o none)) (Run (o ∷ E)) (subst (λ (τs : List Ty). Fits τs vs) (sym (tail-eq-of-cons-eq e)) t)
+            (via 𝓤 (sep 𝓤 (H .⇛ Asked) (Mem 𝓤 H A W (o ∷ E) (start (local τ m ∷ ls) vs))) (assoc∗ 𝓤 (H .⇛ Asked) (Cell 𝓤 H A W o none) (Mem 𝓤 H A W E (passed vs (nothing-held ls))))
             (subst (λ (τs : List Ty). ent 𝓤 (sep 𝓤 (H .⇛ (asks 𝓤 H C τs (start (local τ m ∷ ls) vs) lines K)) (Mem 𝓤 H A W (o ∷ E) (start (local τ m ∷ ls) vs))) (Run (o ∷ E))) e
             (qed W (later (raw (asks 𝓤 H C (types-of (o ∷ E)) (start (local τ m ∷ ls) vs) lines K)) ∷ raw (Mem 𝓤 H A W (o ∷ E) (start (local τ m ∷ ls) vs)) ∷ []) ∵ exec ! C Λ (o ∷ E) (body lines) (atRet (o ∷ E) K) $ await ! tt $ by ! (lines-run C (o ∷ E) Λ fm K lines (start (local τ m ∷ ls) vs))))))
 

@@ -8,12 +8,13 @@ use Rattle.day.specs.declared.Job.{Job}
 use Rattle.day.specs.Windows.{Windows, windows}
 use Rattle.rows.specs.declared.Rows.{Rows}
 
-abbrev pub none : Job
-none = record { release = 0; deadline = 0 }
+-- what stands for no job
+abbrev pub no-job : Job
+no-job = record { release = 0; deadline = 0 }
 
 -- how many rows of a list of n are copied from row `from` on, counted from 0: those that there are, as far as there is a place
-abbrev pub copied : ℕ → ℕ → ℕ
-copied n from = min 41 (n - from)
+abbrev pub copy-count : ℕ → ℕ → ℕ
+copy-count n from = min 41 (n - from)
 
 -- a column before any row is copied
 abbrev pub zeros : List ℕ
@@ -33,11 +34,11 @@ with-job rows i job =
 -- rows with the first k of a list put over their own
 abbrev pub rows-from : Rows → ℕ → List Job → Rows
 rows-from rows zero js = rows
-rows-from rows (suc k) js = with-job (rows-from rows k js) k (getD js k none)
+rows-from rows (suc k) js = with-job (rows-from rows k js) k (getD js k no-job)
 
 -- the rows of a list from row `from` on, at most 41 of them
 abbrev pub rows-of : ℕ → List Job → Rows
-rows-of from js = rows-from (no-rows (copied (length js) from)) (copied (length js) from) (drop from js)
+rows-of from js = rows-from (no-rows (copy-count (length js) from)) (copy-count (length js) from) (drop from js)
 
 -- how many rows are put over a list with n places: those that there are, as far as there is a place
 abbrev pub put-count : ℕ → ℕ → ℕ
@@ -65,6 +66,6 @@ abbrev pub windows-in : Rows → Windows
 windows-in rows = windows (releases-in rows) (deadlines-in rows)
 
 -- each row has its place in both columns
-pub record Placed (rows : Rows) : Type 0 where
+pub record RowsFit (rows : Rows) : Type 0 where
   pub releases : rows .count ≤ length (rows .releases)
   pub deadlines : rows .count ≤ length (rows .deadlines)

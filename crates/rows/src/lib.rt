@@ -3,9 +3,9 @@ use day::Job;
 use day::lesser;
 ghost use mathlib.Core.Path.{_≡_};
 ghost use Prim.Native.Nat.{_<_};
-ghost use Rattle.rows.specs.Rows.{copied, no-rows, with-job, rows-of, put-count, job-at, put-over};
+ghost use Rattle.rows.specs.Rows.{copy-count, no-rows, with-job, rows-of, put-count, job-at, put-over};
 
-// What covered code works on: one row more than a day's list may have, so that a list that is too long is seen.
+// What the number forms work on: one row more than a day's list may have, so that a list that is too long is seen.
 pub struct Rows {
     pub count: usize,
     pub releases: [u16; 41],
@@ -14,7 +14,7 @@ pub struct Rows {
 
 // How many rows of a list are copied from row `from` on, counted from 0: those that there are, as far as there is a place.
 fn rows_copied(len: usize, from: usize) -> usize
-    ensures { λ r. ⌜ r ≡ copied len from ⌝ }
+    ensures { λ r. ⌜ r ≡ copy-count len from ⌝ }
 {
     if from > len {
         return 0;

@@ -6,8 +6,9 @@ use native.Mathlib.Omega.{arith}
 use Rattle.day.proofs.Cases.{on, bool-ext}
 use Rattle.rule.specs.Extreme.{least}
 use Rattle.rule.specs.Span.{Problem, may-split, value, sides, best-split, split}
+use Rattle.rule.specs.SpanPlan.{In}
 use Rattle.rule.proofs.Extreme.{least-cong, latest-cong}
-use Rattle.rule.proofs.Value.{In, on-in-span, MaySplit, may-split-true, may-split-intro, value-in, value-out, sides-is, best-split-is, split-is}
+use Rattle.rule.proofs.Value.{on-in-span, MaySplit, may-split-true, may-split-intro, value-in, value-out, sides-is, best-split-is, split-is}
 
 -- job k of P is job j of Q, over the same values below them, as far as the points go
 pub record Alike (points : ℕ) (P : Problem) (k : ℕ) (Q : Problem) (j : ℕ) : Type 0 where

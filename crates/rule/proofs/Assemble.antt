@@ -6,18 +6,13 @@ use mathlib.Core.Logic.{⊎-elim}
 use native.Mathlib.Omega.{arith}
 use Rattle.day.proofs.Cases.{on-eq, on-le, give}
 use Rattle.rule.specs.Span.{Problem, value, sides}
-use Rattle.rule.proofs.Value.{In, MaySplit, LatestBest, sides-is, value-le-sides}
-use Rattle.rule.proofs.Occupied.{SpanPlan, span-cost, cost-agree}
+use Rattle.rule.specs.SpanPlan.{ByDeadline, In, SpanPlan, span-cost, LateInSpan, SpanBest}
+use Rattle.rule.proofs.Value.{MaySplit, LatestBest, sides-is, value-le-sides}
+use Rattle.rule.proofs.Occupied.{cost-agree}
 use Rattle.rule.proofs.Cut.{Settled, cut-may-split, cut-left, cut-right, cost-cut}
-use Rattle.rule.proofs.Swap.{ByDeadline, settle}
+use Rattle.rule.proofs.Swap.{settle}
 use Rattle.rule.proofs.LowerBound.{no-plan-is-cheaper}
-use Rattle.rule.proofs.Late.{LateInSpan, late-more, late-top, late-at-top, Parts, late-both}
-
--- a plan of the span that costs its value, at least as late as every other of that cost
-pub record SpanBest (P : Problem) (k s e : ℕ) (start : ℕ → ℕ) : Type 0 where
-  pub plan : SpanPlan P k s e start
-  pub costs : span-cost P k s e start ≡ value P k s e
-  pub latest : (q : ℕ → ℕ) → SpanPlan P k s e q → span-cost P k s e q ≡ value P k s e → LateInSpan P k s e start q
+use Rattle.rule.proofs.Late.{late-more, late-top, late-at-top, Parts, late-both}
 
 -- q falls apart at the start of job k, which is a best split, into plans that cost the values of the two sides
 record BestCut (P : Problem) (k s e : ℕ) (q : ℕ → ℕ) : Type 0 where

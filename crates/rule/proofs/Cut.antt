@@ -5,8 +5,9 @@ use native.Mathlib.Omega.{arith}
 use Rattle.day.proofs.Cases.{on-eq, on-le, give}
 use Rattle.day.proofs.Span.{span-cong, span-split}
 use Rattle.rule.specs.Span.{Problem}
-use Rattle.rule.proofs.Value.{In, MaySplit}
-use Rattle.rule.proofs.Occupied.{SpanPlan, occupied, span-cost, stands, occupied-intro, occupied-same}
+use Rattle.rule.specs.SpanPlan.{In, SpanPlan, occupied, span-cost}
+use Rattle.rule.proofs.Value.{MaySplit}
+use Rattle.rule.proofs.Occupied.{stands, occupied-intro, occupied-same}
 
 -- the lower jobs of the span that are released by the start of job k start before it
 abbrev pub Settled : Problem → ℕ → ℕ → ℕ → (ℕ → ℕ) → Type 0

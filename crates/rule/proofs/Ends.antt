@@ -6,10 +6,10 @@ use borrow.Author.Tests.{ne-eqb}
 use Rattle.day.specs.declared.Day.{Day}
 use Rattle.day.specs.Plan.{Plan, taken}
 use Rattle.day.specs.Gap.{cost}
-use Rattle.day.specs.Far.{far-price, from-one}
-use Rattle.day.proofs.Span.{span}
+use Rattle.day.specs.Far.{far-price}
+use Rattle.day.specs.Span.{span}
 use Rattle.day.proofs.Gap.{cost-none}
-use Rattle.day.proofs.Far.{cost-far, cost-far-none}
+use Rattle.day.proofs.Far.{from-one, cost-far, cost-far-none}
 use Rattle.rule.specs.Whole.{without-ends}
 
 pub without-ends-none : (day : Day) (v : ℕ) → without-ends day 0 v ≡ 0

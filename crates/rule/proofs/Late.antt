@@ -4,12 +4,8 @@ use mathlib.Core.Path.{_≡_, _∙_, ap}
 use native.Mathlib.Omega.{arith}
 use Rattle.day.proofs.Cases.{on-eq, on-le, give}
 use Rattle.rule.specs.Span.{Problem}
-use Rattle.rule.proofs.Value.{In, Clear}
-
--- p is at least as late as q: the same for the jobs below k of the span, or later at the highest of them where they differ
-pub data LateInSpan (P : Problem) (k s e : ℕ) (p q : ℕ → ℕ) : Type 0 where
-  same : ((i : ℕ) → i < k → In P s e i → p i ≡ q i) → LateInSpan P k s e p q
-  later : (i : ℕ) → i < k → In P s e i → q i < p i → ((j : ℕ) → i < j → j < k → In P s e j → p j ≡ q j) → LateInSpan P k s e p q
+use Rattle.rule.specs.SpanPlan.{In, LateInSpan, same, later}
+use Rattle.rule.proofs.Value.{Clear}
 
 -- one more job that starts at the same slot, or is none of the span
 pub late-more : (P : Problem) (k s e : ℕ) (p q : ℕ → ℕ) → (In P s e k → p k ≡ q k) → LateInSpan P k s e p q

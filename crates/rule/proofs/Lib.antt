@@ -1,5 +1,5 @@
 -- The laws of the definitions in specs/, then the theorem over any span: LowerBound (no plan is cheaper than the value) and Optimal (the
--- plan read back is the latest of the cheapest). Printed shows the source's formula wrong. Whole is the theorem on a whole day.
+-- plan read back is the latest of the cheapest). SourceFormula shows the source's formula wrong. Whole is the theorem on a whole day.
 pub mod Extreme
 pub mod Value
 pub mod Alike
@@ -14,4 +14,4 @@ pub mod Numbering
 pub mod Rows
 pub mod Ends
 pub mod Whole
-pub mod Printed
+pub mod SourceFormula

@@ -3,10 +3,11 @@ use Prim.Native.Nat.{ℕ, zero, suc, _≤_}
 use native.Mathlib.Omega.{arith}
 use Rattle.day.proofs.Cases.{give}
 use Rattle.rule.specs.Span.{Problem, value}
+use Rattle.rule.specs.SpanPlan.{ByDeadline, SpanPlan, span-cost}
 use Rattle.rule.proofs.Value.{on-in-span, value-zero, value-out, value-le-sides, sides-is}
-use Rattle.rule.proofs.Occupied.{SpanPlan, plan-fewer, span-cost, cost-out, cost-zero}
+use Rattle.rule.proofs.Occupied.{plan-fewer, cost-out, cost-zero}
 use Rattle.rule.proofs.Cut.{cut-may-split, cut-left, cut-right, cost-cut}
-use Rattle.rule.proofs.Swap.{ByDeadline, settle}
+use Rattle.rule.proofs.Swap.{settle}
 
 -- settle the plan at job k; then each side costs at least its value, and the sum of the two is at least the least sum
 pub no-plan-is-cheaper : (P : Problem) {n : ℕ} → ByDeadline P n → (k s e : ℕ) (q : ℕ → ℕ) → k ≤ n → s ≤ e → SpanPlan P k s e q

@@ -1,21 +1,16 @@
 -- Plans of a span, which job stands at a slot, and what a plan of a span costs. Assumes nothing.
 use Prim.Native.Nat.{ℕ, zero, suc, _≤_, _<_}
 use mathlib.Core.Path.{_≡_, refl}
-use mathlib.Core.Bool.{Bool, true, false, _&&_, _||_}
+use mathlib.Core.Bool.{true, _&&_}
 use mathlib.Core.Logic.{⊎-elim}
 use native.Mathlib.Omega.{arith}
 use lib.Dec.{eqb}
 use borrow.Author.Tests.{eqb-true, eq-eqb}
 use Rattle.day.proofs.Cases.{on-eq, give, not-both, bool-ext, and-left, and-right, and-intro, or-cases, or-left, or-right}
-use Rattle.day.proofs.Span.{span, span-cong, span-empty}
+use Rattle.day.proofs.Span.{span-cong, span-empty}
 use Rattle.rule.specs.Span.{Problem, in-span}
-use Rattle.rule.proofs.Value.{In, in-span-true, in-span-intro}
-
--- a start for each job below k of the span: allowed, in its window and in the span, no two the same
-pub record SpanPlan (P : Problem) (k s e : ℕ) (start : ℕ → ℕ) : Type 0 where
-  pub allowed : (i : ℕ) → i < k → In P s e i → P .allowed (start i) ≡ true
-  pub fits : (i : ℕ) → i < k → In P s e i → (P .release i ≤ start i) × (start i < P .deadline i) × (start i < e)
-  pub apart : (i j : ℕ) → i < k → j < k → In P s e i → In P s e j → start i ≡ start j → i ≡ j
+use Rattle.rule.specs.SpanPlan.{In, SpanPlan, occupied, span-cost}
+use Rattle.rule.proofs.Value.{in-span-true, in-span-intro}
 
 -- a plan of the lowest k + 1 jobs is one of the lowest k
 pub plan-fewer : (P : Problem) (k s e : ℕ) (q : ℕ → ℕ) → SpanPlan P (suc k) s e q → SpanPlan P k s e q
@@ -36,15 +31,6 @@ plan-more P k s e b n plan =
       fits = λ i l h. plan .fits i (lower i l h) h;
       apart = λ i j l u h g w. plan .apart i j (lower i l h) (lower j u g) h g w;
     })
-
--- whether a job below k of the span starts at t
-unfoldable pub occupied : Problem → ℕ → ℕ → ℕ → (ℕ → ℕ) → ℕ → Bool
-occupied P zero s e start t = false
-occupied P (suc k) s e start t = (in-span P s e k && eqb (start k) t) || occupied P k s e start t
-
--- the cost of a plan of the span, as if jobs stood just before s and at e
-unfoldable pub span-cost : Problem → ℕ → ℕ → ℕ → (ℕ → ℕ) → ℕ
-span-cost P k s e start = span (P .price) (occupied P k s e start) s e
 
 -- the job below k of the span that stands at t
 pub record Stands (P : Problem) (k s e : ℕ) (start : ℕ → ℕ) (t : ℕ) : Type 0 where

@@ -4,11 +4,11 @@ use mathlib.Core.Path.{sym, _∙_, fun-ext}
 use native.Mathlib.Omega.{arith}
 use Rattle.day.proofs.Cases.{give}
 use Rattle.rule.specs.Span.{Problem, value, split, read-back}
-use Rattle.rule.proofs.Value.{In, on-in-span, value-zero, value-out, sides-is, split-found, read-back-out, read-back-last, read-back-left, read-back-right}
+use Rattle.rule.specs.SpanPlan.{ByDeadline, In, same, SpanBest}
+use Rattle.rule.proofs.Value.{on-in-span, value-zero, value-out, sides-is, split-found, read-back-out, read-back-last, read-back-left, read-back-right}
 use Rattle.rule.proofs.Occupied.{plan-fewer, plan-more, cost-out, cost-zero}
-use Rattle.rule.proofs.Swap.{ByDeadline}
-use Rattle.rule.proofs.Late.{same, late-more}
-use Rattle.rule.proofs.Assemble.{SpanBest, assembled-best}
+use Rattle.rule.proofs.Late.{late-more}
+use Rattle.rule.proofs.Assemble.{assembled-best}
 
 best-of-none : (P : Problem) (s e : ℕ) (b : ℕ → ℕ) → s ≤ e → SpanBest P zero s e b
 best-of-none P s e b l =

@@ -8,17 +8,14 @@ use Rattle.day.specs.declared.Day.{Day}
 use Rattle.day.specs.Windows.{Windows}
 use Rattle.day.specs.Plan.{Plan, Proper, taken}
 use Rattle.day.specs.Best.{AsLate, same, later}
-use Rattle.day.specs.Far.{from-one}
 use Rattle.day.proofs.Cases.{give, on, on-eq, bool-ext}
 use Rattle.day.proofs.Plan.{taken-true, taken-intro}
-use Rattle.day.proofs.Far.{from-one-zero, from-one-suc}
+use Rattle.day.proofs.Far.{from-one, from-one-zero, from-one-suc}
 use Rattle.day.proofs.Number.{numbered-apart}
 use Rattle.rule.specs.Span.{Problem}
 use Rattle.rule.specs.Whole.{problem, ByNumber, Ready}
-use Rattle.rule.proofs.Value.{In}
-use Rattle.rule.proofs.Occupied.{SpanPlan, occupied, occupied-true, occupied-intro}
-use Rattle.rule.proofs.Swap.{ByDeadline}
-use Rattle.rule.proofs.Late.{LateInSpan, same as same-by-number, later as later-by-number}
+use Rattle.rule.specs.SpanPlan.{ByDeadline, In, SpanPlan, occupied, LateInSpan, same as same-by-number, later as later-by-number}
+use Rattle.rule.proofs.Occupied.{occupied-true, occupied-intro}
 use Rattle.rule.proofs.Numbering.{lower-number}
 
 module _ (day : Day) (w : Windows) (row : ℕ → ℕ) (none : ℕ) (R : Ready day w row none) where

@@ -8,8 +8,9 @@ use lib.Dec.{eqb, leb, ltb}
 use borrow.Author.Tests.{ltb-true, leb-true, eq-eqb, ne-eqb, lt-ltb, le-leb}
 use Rattle.day.proofs.Cases.{on, on-eq, on-le, give, not-both, and-left, and-right, find}
 use Rattle.rule.specs.Span.{Problem, in-span}
-use Rattle.rule.proofs.Value.{In, in-span-true, in-span-intro}
-use Rattle.rule.proofs.Occupied.{SpanPlan, span-cost, stands, cost-same}
+use Rattle.rule.specs.SpanPlan.{ByDeadline, In, SpanPlan, span-cost}
+use Rattle.rule.proofs.Value.{in-span-true, in-span-intro}
+use Rattle.rule.proofs.Occupied.{stands, cost-same}
 use Rattle.rule.proofs.Cut.{Settled}
 
 -- i and k change places, every other number stays
@@ -118,10 +119,6 @@ module _ (P : Problem) (k s e : ℕ) (q : ℕ → ℕ) (i : ℕ) (plan : SpanPla
       (λ t o.
       stands (swap i k (o .job)) (swap-below (o .job) (o .below)) (swap-inside (o .job) (o .inside))
       (ap q (swap-swap i k (o .job)) ∙ o .at))
-
--- the jobs below n are numbered by deadline
-abbrev pub ByDeadline : Problem → ℕ → Type 0
-ByDeadline P n = (i j : ℕ) → i ≤ j → j < n → P .deadline i ≤ P .deadline j
 
 -- a settled plan of the same cost: q itself, or one where job k starts later
 pub record Settles (P : Problem) (k s e : ℕ) (q : ℕ → ℕ) : Type 0 where

@@ -8,11 +8,8 @@ use borrow.Author.Tests.{ltb-true, leb-true, eqb-true, eqb-false, lt-ltb, le-ltb
 use Rattle.day.proofs.Cases.{on, on-eq, give, not-both, and-left, and-right, and-intro}
 use Rattle.rule.specs.Extreme.{least, latest}
 use Rattle.rule.specs.Span.{Problem, in-span, clear, may-split, value-by, value, sides, best-split, split, read-back}
+use Rattle.rule.specs.SpanPlan.{In}
 use Rattle.rule.proofs.Extreme.{least-le, least-found, Latest, latest-is, latest-below}
-
--- job k is released at s or later and before e
-abbrev pub In : Problem → ℕ → ℕ → ℕ → Type 0
-In P s e k = (s ≤ P .release k) × (P .release k < e)
 
 pub in-span-true : (P : Problem) (s e k : ℕ) → in-span P s e k ≡ true → In P s e k
 unfolding in-span

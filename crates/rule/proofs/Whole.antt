@@ -8,14 +8,14 @@ use Rattle.day.specs.Windows.{Windows}
 use Rattle.day.specs.Plan.{Plan, Proper, NoPlan, taken}
 use Rattle.day.specs.Gap.{cost}
 use Rattle.day.specs.Best.{Best}
-use Rattle.day.specs.Far.{far-price, from-one}
+use Rattle.day.specs.Far.{far-price}
+use Rattle.day.proofs.Far.{from-one}
 use Rattle.day.proofs.Cases.{give}
 use Rattle.day.proofs.Span.{span-cong}
 use Rattle.rule.specs.Span.{Problem}
 use Rattle.rule.specs.Whole.{problem, whole, whole-back, without-ends, ByNumber, Ready}
-use Rattle.rule.proofs.Occupied.{occupied, span-cost}
+use Rattle.rule.specs.SpanPlan.{occupied, span-cost, SpanBest}
 use Rattle.rule.proofs.LowerBound.{no-plan-is-cheaper}
-use Rattle.rule.proofs.Assemble.{SpanBest}
 use Rattle.rule.proofs.Optimal.{read-back-is-best}
 use Rattle.rule.proofs.Numbering.{plan-by-number}
 use Rattle.rule.proofs.Rows.{released-in-day, by-deadline, rows-to-numbers, numbers-to-rows, same-taken, late-by-row}

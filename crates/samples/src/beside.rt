@@ -1,136 +1,154 @@
-// The planner and its companions beside the slow search and direct counting, on one day.
+// The planner and its companions beside what they have to answer, on one case.
+use crate::case;
 use crate::direct;
 use crate::slow;
-use day::Answer;
-use day::Day;
+use checks::Answer;
+use checks::code;
 use day::at_or_zero;
-use day::code;
+use day::lesser;
+use day::wide;
 use ledger::Counts;
 use ledger::Fill;
+use ledger::SlotFill;
+use std::num::wrapping_add_u16;
+use std::num::wrapping_sub_u16;
 
-// A start that nothing has written.
-pub const UNTOUCHED: u16 = 9999;
-
-// What the planner answered, and whether the slow search says the same.
-pub struct Beside {
-    pub answer: Answer,
-    pub same: bool,
-}
-
-// Plans a list of at most 5 rows both ways. The slow search's plan goes to the first places of `best`, which are untouched so far.
-pub(crate) fn plan(
-    day: Day,
-    releases: &[u16],
-    deadlines: &[u16],
-    best: &mut [u16],
-    table: &mut [u16],
-) -> Beside {
-    let expected = searched(day, releases, deadlines, best);
-    let mut starts = [UNTOUCHED; 5];
-    let answer = planner::plan(day, releases, deadlines, &mut starts, table);
-    Beside {
+// Whether the planner gives this answer and these starts, with as many places for starts, and in a table with as many places as the case says.
+pub(crate) fn planned(case: &[u16], answer: Answer, starts: &[u16], table: &mut [u16]) -> bool {
+    let mut written = [slow::UNTOUCHED; 96];
+    let room = lesser(starts.len(), 96);
+    let told = wide(at_or_zero(case, case::PLACES));
+    let places = lesser(told, table.len());
+    gives(
+        case,
         answer,
-        same: same_answer(answer, expected) && same_numbers(&starts, best),
-    }
+        starts,
+        &mut written[..room],
+        &mut table[..places],
+    )
+        && places == told
 }
 
-// What the planner has to answer.
-fn searched(day: Day, releases: &[u16], deadlines: &[u16], best: &mut [u16]) -> Answer {
-    let bad = direct::bad_row(day.slots, releases, deadlines);
-    if bad > 0 {
-        return direct::names(code::BAD_ROW, bad, 0);
-    }
-    let mut vector = [0u16; 5];
-    let count = releases.len();
-    if count > 5 {
-        return direct::names(code::TOO_MANY_JOBS, 0, 0);
-    }
-    let found = slow::search(day.power, releases, deadlines, &mut vector[..count], best);
-    if found.any {
-        return direct::names(code::DONE, found.cost, 0);
-    }
-    direct::names(code::NO_PLAN, 0, 0)
+fn gives(
+    case: &[u16],
+    answer: Answer,
+    starts: &[u16],
+    written: &mut [u16],
+    table: &mut [u16],
+) -> bool {
+    let given = planner::plan(
+        case::day(case),
+        case::releases(case),
+        case::deadlines(case),
+        written,
+        table,
+    );
+    same_answer(given, answer) && same_numbers(written, starts)
+}
+
+// Whether pricing gives this answer.
+pub(crate) fn priced(case: &[u16], answer: Answer, starts: &[u16]) -> bool {
+    let price = claim::price(
+        case::day(case),
+        case::releases(case),
+        case::deadlines(case),
+        starts,
+    );
+    same_answer(price, answer)
 }
 
 // Whether pricing, ledger and slot records say of a claimed plan what direct counting says.
-pub(crate) fn claimed(day: Day, releases: &[u16], deadlines: &[u16], starts: &[u16]) -> bool {
-    let priced = direct::judged(day, releases, deadlines, starts);
-    let answer = where_done(priced, code::DONE);
-    let columns = ledger::ledger(day, releases, deadlines, starts);
-    same_answer(claim::price(day, releases, deadlines, starts), priced)
-        && same_answer(columns.answer, answer)
-        && counted(
-            day,
-            direct::part(starts, 0, releases.len()),
-            columns.counts,
-            answer,
-        )
-        && slots(day, releases, deadlines, starts, answer)
+pub(crate) fn claimed(case: &[u16], starts: &[u16]) -> bool {
+    let price = direct::judged(case, starts);
+    let answer = where_done(price, code::DONE);
+    let counted = ledger::ledger(
+        case::day(case),
+        case::releases(case),
+        case::deadlines(case),
+        starts,
+    );
+    priced(case, price, starts)
+        && same_answer(counted.answer, answer)
+        && slots(case, starts, answer, counted.counts)
 }
 
 // The answer, but with this code and no numbers where it is done.
 fn where_done(answer: Answer, code: u16) -> Answer {
     if answer.code == code::DONE {
-        return direct::names(code, 0, 0);
+        return Answer::of(code);
     }
     answer
 }
 
-fn sum(counts: Counts) -> u16 {
-    let outside = direct::plus(counts.before, counts.after);
-    let gaps = direct::plus(counts.awake, counts.asleep);
-    direct::plus(direct::plus(outside, gaps), counts.job)
-}
-
-fn counted(day: Day, starts: &[u16], counts: Counts, answer: Answer) -> bool {
-    if answer.code != code::DONE {
-        return sum(counts) == 0;
-    }
-    counts.before == direct::filled(day, starts, direct::BEFORE)
-        && counts.job == direct::filled(day, starts, direct::JOB)
-        && counts.awake == direct::filled(day, starts, direct::AWAKE)
-        && counts.asleep == direct::filled(day, starts, direct::ASLEEP)
-        && counts.after == direct::filled(day, starts, direct::AFTER)
-}
-
-// Whether the records of all slots, and of the one after the day, are what direct counting says under this answer of the ledger.
-fn slots(day: Day, releases: &[u16], deadlines: &[u16], starts: &[u16], answer: Answer) -> bool {
+// Whether the records of all slots, and of the one after the day, are what direct counting says under this answer of the ledger, and the counts are
+// those of the slots: taken off by each slot, they leave nothing.
+fn slots(case: &[u16], starts: &[u16], answer: Answer, counts: Counts) -> bool {
+    let claimed = case::part(starts, 0, case::count(case));
+    let mut left = counts;
     let mut slot = 0;
-    while slot < day.slots {
-        if !one_slot(day, releases, deadlines, starts, answer, slot) {
+    while slot < at_or_zero(case, case::SLOTS) {
+        let fill = direct::fill(case, claimed, answer, slot);
+        if !one_slot(case, starts, slot, answer, fill) {
             return false;
         }
+        left = less(left, fill);
         slot += 1;
     }
     let after = where_done(answer, code::NO_SUCH_SLOT);
-    one_slot(day, releases, deadlines, starts, after, slot)
+    one_slot(case, starts, slot, after, direct::NOTHING) && is_nothing(left)
 }
 
-fn one_slot(
-    day: Day,
-    releases: &[u16],
-    deadlines: &[u16],
-    starts: &[u16],
-    answer: Answer,
-    slot: u16,
-) -> bool {
-    let shown = ledger::slot(day, releases, deadlines, starts, slot);
-    let record = shown.held;
-    let filled_by = record.fill;
-    let fill = number(filled_by);
-    if !same_answer(shown.answer, answer) {
-        return false;
+// The counts without a slot that is filled so.
+fn less(counts: Counts, fill: u16) -> Counts {
+    Counts {
+        before: taken(counts.before, fill == direct::BEFORE),
+        job: taken(counts.job, fill >= direct::JOB),
+        awake: taken(counts.awake, fill == direct::AWAKE),
+        asleep: taken(counts.asleep, fill == direct::ASLEEP),
+        after: taken(counts.after, fill == direct::AFTER),
     }
-    if answer.code != code::DONE {
-        return record.slot == 0 && fill == direct::BEFORE;
-    }
-    let claimed = direct::part(starts, 0, releases.len());
-    record.slot == slot && fill == direct::fill(day.power, claimed, slot)
 }
 
-fn number(fill: Fill) -> u16 {
+fn taken(count: u16, one: bool) -> u16 {
+    if one {
+        return wrapping_sub_u16(count, 1);
+    }
+    count
+}
+
+fn is_nothing(counts: Counts) -> bool {
+    counts.before == 0
+        && counts.job == 0
+        && counts.awake == 0
+        && counts.asleep == 0
+        && counts.after == 0
+}
+
+fn one_slot(case: &[u16], starts: &[u16], slot: u16, answer: Answer, fill: u16) -> bool {
+    let shown = ledger::slot(
+        case::day(case),
+        case::releases(case),
+        case::deadlines(case),
+        starts,
+        slot,
+    );
+    same_answer(shown.answer, answer) && holds(shown.held, slot, fill)
+}
+
+// Whether a record has this slot and what fills it; where nothing is shown, slot 0 and before.
+fn holds(held: SlotFill, slot: u16, fill: u16) -> bool {
+    let filled = number(held);
+    if fill == direct::NOTHING {
+        return held.slot == 0 && filled == direct::BEFORE;
+    }
+    held.slot == slot && filled == fill
+}
+
+// What fills the slot of a record, as a number.
+fn number(held: SlotFill) -> u16 {
+    let fill = held.fill;
     match fill {
-        Fill::Job(row) => direct::plus(direct::JOB, row),
+        Fill::Job(row) => wrapping_add_u16(direct::JOB, row),
         Fill::Before => direct::BEFORE,
         Fill::Awake => direct::AWAKE,
         Fill::Asleep => direct::ASLEEP,
@@ -139,30 +157,19 @@ fn number(fill: Fill) -> u16 {
 }
 
 // Whether the choice between two claimed plans is what their prices say.
-pub(crate) fn chosen<'a>(
-    day: Day,
-    releases: &[u16],
-    deadlines: &[u16],
-    own: &'a [u16],
-    server: &'a [u16],
-) -> bool {
-    let own_price = direct::judged(day, releases, deadlines, own);
-    let server_price = direct::judged(day, releases, deadlines, server);
-    let expected = winner(own_price, server_price);
-    if !same_answer(
+pub(crate) fn chosen<'a>(case: &[u16], own: &'a [u16], server: &'a [u16]) -> bool {
+    let day = case::day(case);
+    let releases = case::releases(case);
+    let deadlines = case::deadlines(case);
+    let expected = winner(direct::judged(case, own), direct::judged(case, server));
+    same_answer(
         claim::which(day, releases, deadlines, own, server),
         expected,
-    ) {
-        return false;
-    }
-    let part = claim::choose(day, releases, deadlines, own, server);
-    if expected.code != code::DONE {
-        return part.len() == 0;
-    }
-    if expected.first == 1 {
-        return part.len() == releases.len() && starts_with(own, part);
-    }
-    part.len() == releases.len() && starts_with(server, part)
+    )
+        && same_numbers(
+            claim::choose(day, releases, deadlines, own, server),
+            winning(expected, own, server, case::count(case)),
+        )
 }
 
 fn winner(own: Answer, server: Answer) -> Answer {
@@ -170,7 +177,7 @@ fn winner(own: Answer, server: Answer) -> Answer {
         return own;
     }
     if own.code != code::DONE && server.code != code::DONE {
-        return direct::names(code::NEITHER_PROPER, 0, 0);
+        return Answer::of(code::NEITHER_PROPER);
     }
     if own.code == code::DONE && (server.code != code::DONE || own.first <= server.first) {
         return direct::names(code::DONE, 1, 0);
@@ -178,22 +185,28 @@ fn winner(own: Answer, server: Answer) -> Answer {
     direct::names(code::DONE, 2, 0)
 }
 
-pub(crate) fn same_answer(a: Answer, b: Answer) -> bool {
+// The starts of the plan that wins.
+fn winning<'a>(expected: Answer, own: &'a [u16], server: &'a [u16], count: usize) -> &'a [u16] {
+    if expected.code != code::DONE {
+        return case::part(own, 0, 0);
+    }
+    if expected.first == 1 {
+        return case::part(own, 0, count);
+    }
+    case::part(server, 0, count)
+}
+
+fn same_answer(a: Answer, b: Answer) -> bool {
     a.code == b.code && a.first == b.first && a.second == b.second
 }
 
-pub(crate) fn same_numbers(a: &[u16], b: &[u16]) -> bool {
-    a.len() == b.len() && starts_with(a, b)
-}
-
-// Whether the first numbers of `whole` are those of `part`.
-fn starts_with(whole: &[u16], part: &[u16]) -> bool {
-    if whole.len() < part.len() {
+fn same_numbers(a: &[u16], b: &[u16]) -> bool {
+    if a.len() != b.len() {
         return false;
     }
     let mut i = 0;
-    while i < part.len() {
-        if whole[i] != part[i] {
+    while i < a.len() {
+        if at_or_zero(a, i) != at_or_zero(b, i) {
             return false;
         }
         i += 1;

@@ -1,22 +1,12 @@
 // Numbers drawn by a key, the same in every run.
 
-// The next key or count; 0 after the last.
-pub(crate) fn next(key: u64) -> u64 {
-    std::num::wrapping_add_u64(key, 1)
-}
-
-// The key of the claims for a day.
-pub(crate) fn key(day: u64) -> u64 {
-    scrambled(day)
-}
-
 // One of the numbers below `count`; 0 where there is none.
 pub(crate) fn below(count: u16, key: u64) -> u16 {
     digit(scrambled(scrambled(key)) / 256, count)
 }
 
 // Turns the bits and takes a step of a linear congruential generator.
-fn scrambled(key: u64) -> u64 {
+pub(crate) fn scrambled(key: u64) -> u64 {
     let turned = key % 65536 * 32768 + key / 65536 % 32768;
     (turned % 2147483648 * 1103515245 + 12345) % 2147483648
 }

@@ -1,84 +1,60 @@
 // Examples of document 01 that are not proved of the definitions: limits, refusals, slips, and the program's answers to files. They are read from
 // standard input; the file `stdin` has them, and says what stands in a line.
 use crate::beside;
-use crate::days;
-use crate::direct;
-use crate::score;
-use crate::score::Score;
-use day::Answer;
-use day::Day;
+use crate::case;
+use crate::tally;
+use crate::tally::Tally;
+use checks::code;
 use day::at_or_zero;
+use day::lesser;
 use day::wide;
 use libc::STDIN_FILENO;
+use std::num::wrapping_add_u16;
+use std::num::wrapping_add_usize;
 
 // Runs every example.
-pub(crate) fn run(table: &mut [u16]) -> Score {
+pub(crate) fn run(table: &mut [u16]) {
     let mut text = io::large_buffer();
     let length = io::read_full(STDIN_FILENO, &mut text);
-    run_lines(part(&text, 0, length), table)
+    tally::print(b"examples ", run_lines(part(&text, 0, length), table));
 }
 
-fn run_lines(text: &[u8], table: &mut [u16]) -> Score {
-    let mut score = score::none();
+fn run_lines(text: &[u8], table: &mut [u16]) -> Tally {
+    let mut tally = tally::none();
+    let mut from = 0;
     let mut place = 0;
     while place < text.len() {
-        score = after_line(score, line_before(text, place), table);
+        tally = after_line(tally, line(text, from, place), table);
+        from = line_start(text, from, place);
         place += 1;
     }
-    score
+    tally
 }
 
-// The line that ends at a place; none where the byte there ends no line.
-fn line_before(text: &[u8], place: usize) -> &[u8] {
-    if byte_at(text, place) != b'\n' {
-        return part(text, 0, 0);
+// The line from one place to another; none where no line ends there.
+fn line(text: &[u8], from: usize, place: usize) -> &[u8] {
+    if byte_at(text, place) == b'\n' {
+        return part(text, from, place);
     }
-    let mut from = place;
-    while from > 0 {
-        if byte_at(text, from - 1) == b'\n' {
-            return part(text, from, place);
-        }
-        from -= 1;
-    }
-    part(text, 0, place)
+    part(text, 0, 0)
 }
 
-// The score after a line; a line that is empty or starts with `#` is no example.
-fn after_line(score: Score, line: &[u8], table: &mut [u16]) -> Score {
-    let kind = byte_at(line, 0);
-    if kind == 0 || kind == b'#' {
-        return score;
+// Where the line starts that the byte after a place is of.
+fn line_start(text: &[u8], from: usize, place: usize) -> usize {
+    if byte_at(text, place) == b'\n' {
+        return wrapping_add_usize(place, 1);
     }
-    score::scored(score, is_right(kind, line, table))
+    from
 }
 
-fn is_right(kind: u8, line: &[u8], table: &mut [u16]) -> bool {
-    let end = colon(line);
-    let mut list = [0u16; 96];
-    let count = put_numbers(part(line, 0, end), &mut list);
-    agrees(kind, numbers_of(&list, count), words(line, end), table)
-}
-
-fn agrees(kind: u8, numbers: &[u16], words: &[u8], table: &mut [u16]) -> bool {
-    if kind == b'p' {
-        return is_planned(numbers, table);
-    }
-    if kind == b'c' {
-        return is_priced(numbers);
-    }
-    is_printed(numbers, words, table)
-}
-
-// The bytes from one place to another; none where there are no such places.
+// The bytes from one place to another; as many of them as there are.
 fn part(bytes: &[u8], from: usize, to: usize) -> &[u8] {
-    if to <= bytes.len() {
-        if from <= to {
-            return &bytes[from..to];
-        }
-    }
-    &bytes[..0]
+    let end = lesser(to, bytes.len());
+    let start = lesser(from, end);
+    &bytes[start..end]
 }
 
+// 0 past the end.
 fn byte_at(bytes: &[u8], place: usize) -> u8 {
     if place < bytes.len() {
         return bytes[place];
@@ -86,46 +62,66 @@ fn byte_at(bytes: &[u8], place: usize) -> u8 {
     0
 }
 
-// The place of the first colon; the line's end where there is none.
-fn colon(line: &[u8]) -> usize {
+// The tally after a line; a line that is empty or starts with `#` is no example.
+fn after_line(tally: Tally, line: &[u8], table: &mut [u16]) -> Tally {
+    let kind = byte_at(line, 0);
+    if kind == 0 || kind == b'#' {
+        return tally;
+    }
+    tally::after(tally, code::DONE, is_right(kind, line, table))
+}
+
+fn is_right(kind: u8, line: &[u8], table: &mut [u16]) -> bool {
+    let mut list = [0u16; 96];
+    let colon = put_numbers(line, &mut list);
+    let words = part(line, wrapping_add_usize(colon, 2), line.len());
+    agrees(kind, case_of(&list), words, table)
+}
+
+fn agrees(kind: u8, case: &[u16], words: &[u8], table: &mut [u16]) -> bool {
+    if kind == b'f' {
+        return is_printed(case, words, table);
+    }
+    is_answered(kind, case, table)
+}
+
+fn is_answered(kind: u8, case: &[u16], table: &mut [u16]) -> bool {
+    let answer = case::answer(case);
+    let starts = case::starts(case);
+    if kind == b'p' {
+        return beside::planned(case, answer, starts, table);
+    }
+    beside::priced(case, answer, starts)
+}
+
+// The numbers of a line, of which the first place says how many there are.
+fn case_of(list: &[u16; 96]) -> &[u16] {
+    case::part(list, 1, 1 + wide(list[0]))
+}
+
+// Puts the numbers of a line, each of which has a blank before it, and gives the place of the colon; the line's end where there is none.
+fn put_numbers(line: &[u8], list: &mut [u16; 96]) -> usize {
     let mut place = 0;
     while place < line.len() {
-        if line[place] == b':' {
+        let byte = byte_at(line, place);
+        if byte == b':' {
             return place;
         }
+        put_byte(byte, list);
         place += 1;
     }
     place
 }
 
-// What stands after a colon and a blank.
-fn words(line: &[u8], colon: usize) -> &[u8] {
-    if colon < line.len() {
-        let from = colon + 1;
-        if from < line.len() {
-            return &line[from + 1..];
-        }
+// A blank counts one number more, at the first place; a digit goes to the last number.
+fn put_byte(byte: u8, list: &mut [u16; 96]) {
+    if byte == b' ' {
+        list[0] = wrapping_add_u16(list[0], 1);
+        return;
     }
-    &line[..0]
-}
-
-// Puts the numbers of a line, each of which has a blank before it, at the places from 1 on, and gives how many there are.
-fn put_numbers(line: &[u8], numbers: &mut [u16; 96]) -> u16 {
-    let mut count = 0;
-    let mut place = 0;
-    while place < line.len() {
-        if line[place] == b' ' {
-            count = direct::plus(count, 1);
-        }
-        put_digit(wide(count), line[place], numbers);
-        place += 1;
-    }
-    count
-}
-
-fn put_digit(place: usize, byte: u8, numbers: &mut [u16; 96]) {
-    if place < 96 {
-        numbers[place] = with_digit(numbers[place], byte);
+    let last = wide(list[0]);
+    if last < 96 {
+        list[last] = with_digit(list[last], byte);
     }
 }
 
@@ -138,80 +134,13 @@ fn with_digit(number: u16, byte: u8) -> u16 {
     (value % 65536) as u16
 }
 
-fn numbers_of(list: &[u16; 96], count: u16) -> &[u16] {
-    direct::part(list, 1, 1 + wide(count))
-}
-
-fn day_in(numbers: &[u16]) -> Day {
-    days::day_of(at_or_zero(numbers, 1), at_or_zero(numbers, 2))
-}
-
-fn answer_in(numbers: &[u16]) -> Answer {
-    direct::names(
-        at_or_zero(numbers, 4),
-        at_or_zero(numbers, 5),
-        at_or_zero(numbers, 6),
-    )
-}
-
-fn releases_in(numbers: &[u16]) -> &[u16] {
-    let count = wide(at_or_zero(numbers, 0));
-    direct::part(numbers, 7, 7 + count)
-}
-
-fn deadlines_in(numbers: &[u16]) -> &[u16] {
-    let count = wide(at_or_zero(numbers, 0));
-    direct::part(numbers, 7 + count, 7 + 2 * count)
-}
-
-fn starts_in(numbers: &[u16]) -> &[u16] {
-    let count = wide(at_or_zero(numbers, 0));
-    direct::part(numbers, 7 + 2 * count, numbers.len())
-}
-
-// Plans with as many places for starts as the line has, and in a table with as many as it says.
-fn is_planned(numbers: &[u16], table: &mut [u16]) -> bool {
-    let mut starts = [beside::UNTOUCHED; 96];
-    let room = starts_in(numbers).len();
-    let places = wide(at_or_zero(numbers, 3));
-    if room > 96 {
-        return false;
-    }
-    if places > table.len() {
-        return false;
-    }
-    gives(numbers, &mut starts[..room], &mut table[..places])
-}
-
-fn gives(numbers: &[u16], starts: &mut [u16], table: &mut [u16]) -> bool {
-    let answer = planner::plan(
-        day_in(numbers),
-        releases_in(numbers),
-        deadlines_in(numbers),
-        starts,
-        table,
-    );
-    beside::same_answer(answer, answer_in(numbers))
-        && beside::same_numbers(starts, starts_in(numbers))
-}
-
-fn is_priced(numbers: &[u16]) -> bool {
-    let answer = claim::price(
-        day_in(numbers),
-        releases_in(numbers),
-        deadlines_in(numbers),
-        starts_in(numbers),
-    );
-    beside::same_answer(answer, answer_in(numbers))
-}
-
 // Whether the program prints this text.
 fn is_printed(numbers: &[u16], expected: &[u8], table: &mut [u16]) -> bool {
     let mut file = [0u8; 4200];
     let length = put_file(numbers, &mut file);
     let text = report::report(written(&file, length), table);
     let bytes = text.bytes;
-    text.len == expected.len() && shows(&bytes, expected)
+    shows(part(&bytes, 0, text.len), expected)
 }
 
 fn written(file: &[u8; 4200], length: usize) -> &[u8] {
@@ -233,14 +162,14 @@ fn put_file(numbers: &[u16], file: &mut [u8; 4200]) -> usize {
     end
 }
 
-// Whether the bytes start with those expected, where `/` stands for the end of a line.
+// Whether the bytes are those expected, where `/` stands for the end of a line.
 fn shows(bytes: &[u8], expected: &[u8]) -> bool {
-    if bytes.len() < expected.len() {
+    if bytes.len() != expected.len() {
         return false;
     }
     let mut i = 0;
-    while i < expected.len() {
-        if bytes[i] != printed(expected[i]) {
+    while i < bytes.len() {
+        if byte_at(bytes, i) != printed(byte_at(expected, i)) {
             return false;
         }
         i += 1;

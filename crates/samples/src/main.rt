@@ -1,12 +1,13 @@
 // Runs the examples of document 01 that aren't proved of the definitions, and compares the planner and its companions with a slow search over all
 // plans and with direct counting, on small days.
 mod beside;
+mod case;
 mod days;
 mod direct;
 mod draw;
 mod examples;
-mod score;
 mod slow;
+mod tally;
 
 ghost use mathlib.Core.Path.{_≡_};
 ghost use lib.ListN.{length};
@@ -20,10 +21,6 @@ fn table() -> [u16; 30625]
 
 fn main() {
     let mut places = table();
-    score::print(b"examples ", examples::run(&mut places));
-    let small = days::all_small(days::none(), &mut places);
-    let all = days::random(small, &mut places);
-    score::print(b"days compared ", all.score);
-    score::line(b"refused ", all.refused);
-    score::line(b"without a plan ", all.without);
+    examples::run(&mut places);
+    days::run(&mut places);
 }

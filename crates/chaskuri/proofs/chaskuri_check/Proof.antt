@@ -12,7 +12,7 @@ use Rattle.rows.proofs.Lines.{calls, the, literal}
 use Rattle.rows.proofs.Runs.{runs-lines}
 use Rattle.rows.proofs.Handed.{hands-on}
 use Rattle.rows.proofs.copy_out.Symbol.{name as #copy-out}
-use Rattle.chaskuri.proofs.Promises.{list-checked}
+use Rattle.chaskuri.proofs.CopyPromises.{list-checked}
 use Rattle.chaskuri.proofs.by_value.check as g
 use Rattle.chaskuri.proofs.by_value.check.Symbol as g-def
 use Rattle.chaskuri.proofs.by_value.check.Symbol.{name as #g}

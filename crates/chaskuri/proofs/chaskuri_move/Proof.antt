@@ -39,22 +39,22 @@ use denote.Triple.Statement.{Contract, Triple}
 use denote.Triple.Table.{entered, cited}
 use denote.Triple.Walked.{says}
 use Rattle.day.specs.declared.Job.{Job}
-use Rattle.day.proofs.Answer as N
-use Rattle.day.proofs.Answer.Laws as N′
+use Rattle.checks.proofs.Answer as N
+use Rattle.checks.proofs.Answer.Laws as N′
 use Rattle.rows.specs.declared.Rows.{Rows}
-use Rattle.chaskuri.specs.declared.by_value.MovedRows.{MovedRows}
-use Rattle.rows.specs.Rows.{rows-of, put-over, Placed}
-use Rattle.chaskuri.specs.ByValue.{MovesRows}
-use Rattle.rows.proofs.Copied.{rows-placed}
+use Rattle.chaskuri.specs.declared.by_value.MovedByValue.{MovedByValue}
+use Rattle.rows.specs.Rows.{rows-of, put-over, RowsFit}
+use Rattle.chaskuri.specs.steps.ByValue.{MovedByValuePromise}
+use Rattle.rows.proofs.Copied.{rows-fit}
 use Rattle.chaskuri.proofs.PutPromises.{list-moved}
-use Rattle.chaskuri.proofs.by_value.MovedRows as B
-use Rattle.chaskuri.proofs.by_value.MovedRows.Laws as B′
+use Rattle.chaskuri.proofs.by_value.MovedByValue as B
+use Rattle.chaskuri.proofs.by_value.MovedByValue.Laws as B′
 use Rattle.rows.proofs.Setting.{Typed, gets, R, S, machine, leaves, rules, calls as calls-of, loops}
 use Rattle.rows.proofs.Lines.{Line, calls, sets, same, the, part-of, literal, lends, only-if, fieldsOf}
 use Rattle.rows.proofs.Runs.{runs-updated}
-use Rattle.rows.proofs.Copies.{copies}
+use Rattle.rows.proofs.CopyCall.{copies}
 use Rattle.rows.proofs.Shared.{LentShared, lends-shared, unshared}
-use Rattle.rows.proofs.Puts.{Last, writes}
+use Rattle.rows.proofs.PutCall.{Last, writes}
 use Rattle.rows.proofs.copy_out.Symbol.{name as #copy-out}
 use Rattle.rows.proofs.put_back.Symbol.{name as #put-back}
 use Rattle.chaskuri.proofs.by_value.move_list as g
@@ -100,7 +100,7 @@ module _ {M : Type 1} (𝓤 : URA M) (H : Heap 𝓤) (𝓜 : Model 𝓤 H) (𝓖
   known = cited 𝓤 H G 𝓜 𝓡 code.env #g g-def.routine code.calls-chaskuri·by-value·move-list (g-thm.met 𝓤 H 𝓜 𝓖 𝓡)
 
   -- the struct's two fields
-  apart : (r : MovedRows) → Is B.the-row r (LL.vals B.the-type B′.the-laws r) → Is N.the-row (r .answer) (LL.vals N.the-type N′.the-laws (r .answer)) × Is S (r .rows) (machine (r .rows) ∷ [])
+  apart : (r : MovedByValue) → Is B.the-row r (LL.vals B.the-type B′.the-laws r) → Is N.the-row (r .answer) (LL.vals N.the-type N′.the-laws (r .answer)) × Is S (r .rows) (machine (r .rows) ∷ [])
   apart r is = let fields = LL.owed B.the-type B′.the-laws r _ is in (fields .0, fields .1 .0)
 
   module _ (κ : Lft) (q : Share) (slots : ℕ) (x : RefT (List Job)) (shift : ℤ) (room : Room R (length (now x))) where
@@ -126,7 +126,7 @@ module _ {M : Type 1} (𝓤 : URA M) (H : Heap 𝓤) (𝓜 : Model 𝓤 H) (𝓖
     abbrev Moves : Val → SProp 𝓤
     Moves v = gets 𝓤 H C #g (u ∷ v ∷ e ∷ []) bothTy (λ w. gets 𝓤 H C #put-back (sliceVal (ptr x) n ∷ getV (fieldsOf w) 1 ∷ []) tyUnit (λ _. only-if 𝓤 (hasTy N′.mir (getV (fieldsOf w) 0)) (F .post at (getV (fieldsOf w) 0))))
 
-    ends : (r : MovedRows) → MovesRows slots shift rows r → (w : Val) → ent 𝓤 (⋆ 𝓤 H A (‵ (Last x (put-over (now x) (r .rows))) ∷ ‵ (flft κ q) ∷ ‵ (N.the-row .own (r .answer) (w ∷ [])) ∷ ‵ ftrue ∷ [])) (F .post at w)
+    ends : (r : MovedByValue) → MovedByValuePromise slots shift rows r → (w : Val) → ent 𝓤 (⋆ 𝓤 H A (‵ (Last x (put-over (now x) (r .rows))) ∷ ‵ (flft κ q) ∷ ‵ (N.the-row .own (r .answer) (w ∷ [])) ∷ ‵ ftrue ∷ [])) (F .post at w)
     ends r p w =
         qed W (‵ (Last x (put-over (now x) (r .rows))) ∷ ‵ (flft κ q) ∷ ‵ (N.the-row .own (r .answer) (w ∷ [])) ∷ ‵ ftrue ∷ []) ∵
         suffices ! _ (leaves 𝓤 H A W f.ended (f.clauses 𝓤 H A (𝓜 .mem) (𝓡 .run)) at w (r .answer) (tt, (put-over (now x) (r .rows), (tt, tt)))) $
@@ -149,9 +149,9 @@ module _ {M : Type 1} (𝓤 : URA M) (H : Heap 𝓤) (𝓜 : Model 𝓤 H) (𝓖
         qed W (‵ (S .own rows (v ∷ [])) ∷ ‵ (flft (ν ∷ []) fullShare) ∷ (‵ (Lent ν) ⊛ ‵ Slots ⊛ ‵ Shift) ∷ []) ∵ updating ! $ move ! (1 ∷ []) $ lft-end ! tt $ move ! (2 ∷ []) $ split3 ! $ move ! (3 ∷ 0 ∷ []) $
         use2 W (later (‵ (MutSlice (named 0) κ R .own x (slice-vals x)) ⊛ ‵ (flft κ q))) (unshared R κ (ν ∷ []) q (name x) (ptr x .0) (ptr x .1) (now x) 𝓤 H A W (named 0) (named 0) room) $ await ! tt $ split ! $
         -- [the list; its token; what slots and shift own; the rows]
-        at-once ! $ move ! (4 ∷ 3 ∷ []) $ fjoin ! $ move ! (3 ∷ 0 ∷ []) $ fjoin ! $ nothing ! $ join ! $ use0 W (raw (fact 𝓤 (Placed rows))) (factI 𝓤 (Placed rows) (emp 𝓤) (rows-placed 0 (now x))) $ move ! (1 ∷ 0 ∷ []) $ join ! $ move ! (0 ∷ 2 ∷ 1 ∷ []) $
+        at-once ! $ move ! (4 ∷ 3 ∷ []) $ fjoin ! $ move ! (3 ∷ 0 ∷ []) $ fjoin ! $ nothing ! $ join ! $ use0 W (raw (fact 𝓤 (RowsFit rows))) (factI 𝓤 (RowsFit rows) (emp 𝓤) (rows-fit 0 (now x))) $ move ! (1 ∷ 0 ∷ []) $ join ! $ move ! (0 ∷ 2 ∷ 1 ∷ []) $
         by ! (writes 𝓤 H 𝓜 𝓖 𝓡 code.env code.calls-rows·put-back κ q x B.the-type N.the-type B′.the-laws N′.the-laws N′.the-plain (λ r. r .answer) (λ r. r .rows) apart #g (u ∷ v ∷ e ∷ [])
-        (G .pre (to v)) (emp 𝓤) (Lasts g.ended tt (slots, (rows, (shift, tt)))) (λ ws. sem 𝓤 H A (lasts g.ended tt (slots, (rows, (shift, tt))) ws)) (λ r. MovesRows slots shift rows r) (F .post at) (known (to v)) ends)
+        (G .pre (to v)) (emp 𝓤) (Lasts g.ended tt (slots, (rows, (shift, tt)))) (λ ws. sem 𝓤 H A (lasts g.ended tt (slots, (rows, (shift, tt))) ws)) (λ r. MovedByValuePromise slots shift rows r) (F .post at) (known (to v)) ends)
 
     walk : Typed (tyInt w16) u → Typed (sliceTy (tyRef (named 0) mut (pointee (R .written)))) (sliceVal (ptr x) n) → Typed (tyInt w16) e → ent 𝓤 (onEntry 𝓤 H A f.signature (κ, tt) (q, tt) (slots, (x, (shift, tt))) (u ∷ [], (slice-vals x, (e ∷ [], tt)))) (WpFn 𝓤 H C Λ code.function (u ∷ sliceVal (ptr x) n ∷ e ∷ []) (F .post at))
     walk tu tx te =

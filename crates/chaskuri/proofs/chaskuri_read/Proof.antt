@@ -31,18 +31,18 @@ use denote.Triple.Statement.{Contract, Triple}
 use denote.Triple.Table.{entered, cited}
 use denote.Triple.Walked.{says}
 use Rattle.day.specs.declared.Job.{Job}
-use Rattle.dayfile.proofs.Reading as N
-use Rattle.dayfile.proofs.Reading.Laws as N′
-use Rattle.chaskuri.specs.declared.by_value.ReadRows.{ReadRows}
+use Rattle.dayfile.proofs.reader.Reading as N
+use Rattle.dayfile.proofs.reader.Reading.Laws as N′
+use Rattle.chaskuri.specs.declared.by_value.ReadByValue.{ReadByValue}
 use Rattle.rows.specs.Rows.{put-over}
-use Rattle.chaskuri.specs.ByValue.{ReadsRows}
+use Rattle.chaskuri.specs.steps.ByValue.{ReadByValuePromise}
 use Rattle.chaskuri.proofs.PutPromises.{list-read}
-use Rattle.chaskuri.proofs.by_value.ReadRows as B
-use Rattle.chaskuri.proofs.by_value.ReadRows.Laws as B′
+use Rattle.chaskuri.proofs.by_value.ReadByValue as B
+use Rattle.chaskuri.proofs.by_value.ReadByValue.Laws as B′
 use Rattle.rows.proofs.Setting.{Typed, R, S, machine, leaves, rules, calls as calls-of, loops}
 use Rattle.rows.proofs.Lines.{Line, calls, sets, same, the, part-of, lends}
 use Rattle.rows.proofs.Runs.{runs-lines}
-use Rattle.rows.proofs.Puts.{Last, writes}
+use Rattle.rows.proofs.PutCall.{Last, writes}
 use Rattle.rows.proofs.put_back.Symbol.{name as #put-back}
 use Rattle.chaskuri.proofs.by_value.read as g
 use Rattle.chaskuri.proofs.by_value.read.Symbol as g-def
@@ -80,7 +80,7 @@ module _ {M : Type 1} (𝓤 : URA M) (H : Heap 𝓤) (𝓜 : Model 𝓤 H) (𝓖
   known = cited 𝓤 H G 𝓜 𝓡 code.env #g g-def.routine code.calls-chaskuri·by-value·read (g-thm.met 𝓤 H 𝓜 𝓖 𝓡)
 
   -- the struct's two fields
-  apart : (r : ReadRows) → Is B.the-row r (LL.vals B.the-type B′.the-laws r) → Is N.the-row (r .reading) (LL.vals N.the-type N′.the-laws (r .reading)) × Is S (r .rows) (machine (r .rows) ∷ [])
+  apart : (r : ReadByValue) → Is B.the-row r (LL.vals B.the-type B′.the-laws r) → Is N.the-row (r .reading) (LL.vals N.the-type N′.the-laws (r .reading)) × Is S (r .rows) (machine (r .rows) ∷ [])
   apart r is = let fields = LL.owed B.the-type B′.the-laws r _ is in (fields .0, fields .1 .0)
 
   module _ (κ₀ κ₁ : Lft) (q₀ q₁ : Share) (file : RefT (List ℕ)) (x : RefT (List Job)) where
@@ -93,7 +93,7 @@ module _ {M : Type 1} (𝓤 : URA M) (H : Heap 𝓤) (𝓜 : Model 𝓤 H) (𝓖
     abbrev at : F .Ghost
     at = (((κ₀, (κ₁, tt)), (q₀, (q₁, tt)), tt, (file, (x, tt)), (slice-vals file, (slice-vals x, tt))), tt)
 
-    ends : (r : ReadRows) → ReadsRows (now file) n r → (u : Val) → ent 𝓤 (⋆ 𝓤 H A (‵ (Last x (put-over (now x) (r .rows))) ∷ ‵ (flft κ₁ q₁) ∷ ‵ (N.the-row .own (r .reading) (u ∷ [])) ∷ (‵ (flft κ₀ q₀) ⊛ ‵ ftrue) ∷ [])) (F .post at u)
+    ends : (r : ReadByValue) → ReadByValuePromise (now file) n r → (u : Val) → ent 𝓤 (⋆ 𝓤 H A (‵ (Last x (put-over (now x) (r .rows))) ∷ ‵ (flft κ₁ q₁) ∷ ‵ (N.the-row .own (r .reading) (u ∷ [])) ∷ (‵ (flft κ₀ q₀) ⊛ ‵ ftrue) ∷ [])) (F .post at u)
     ends r p u =
         qed W (‵ (Last x (put-over (now x) (r .rows))) ∷ ‵ (flft κ₁ q₁) ∷ ‵ (N.the-row .own (r .reading) (u ∷ [])) ∷ (‵ (flft κ₀ q₀) ⊛ ‵ ftrue) ∷ []) ∵
         suffices ! _ (leaves 𝓤 H A W f.ended (f.clauses 𝓤 H A (𝓜 .mem) (𝓡 .run)) at u (r .reading) (tt, (put-over (now x) (r .rows), tt))) $
@@ -109,7 +109,7 @@ module _ {M : Type 1} (𝓤 : URA M) (H : Heap 𝓤) (𝓜 : Model 𝓤 H) (𝓖
         -- [the list; true; the file; the file's token; the list's token; true]
         nothing ! $ owned ! usize (Is usize) (uint-makes 𝓤 H A W w64) n (vint w64 n ∷ []) (refl, fits) $ fjoin ! $ move ! (3 ∷ 0 ∷ []) $ fjoin ! $ nothing ! $ move ! (4 ∷ 0 ∷ []) $ join ! $ join ! $ nothing ! $ move ! (1 ∷ 0 ∷ []) $ join ! $ keep ! (0 ∷ 3 ∷ 1 ∷ []) $
         by ! (writes 𝓤 H 𝓜 𝓖 𝓡 code.env code.calls-rows·put-back κ₁ q₁ x B.the-type N.the-type B′.the-laws N′.the-laws N′.the-plain (λ r. r .reading) (λ r. r .rows) apart #g (sliceVal (ptr file) (length (now file)) ∷ vint w64 n ∷ [])
-        (G .pre to) (sep 𝓤 (A .lft κ₀ q₀) (emp 𝓤)) (Lasts g.ended (κ₀, tt) (file, (n, tt))) (λ ws. sem 𝓤 H A (lasts g.ended (κ₀, tt) (file, (n, tt)) ws)) (λ r. ReadsRows (now file) n r) (F .post at) (known to) ends)
+        (G .pre to) (sep 𝓤 (A .lft κ₀ q₀) (emp 𝓤)) (Lasts g.ended (κ₀, tt) (file, (n, tt))) (λ ws. sem 𝓤 H A (lasts g.ended (κ₀, tt) (file, (n, tt)) ws)) (λ r. ReadByValuePromise (now file) n r) (F .post at) (known to) ends)
 
   f-meets : Triple 𝓤 (WpFn 𝓤 H C Λ code.function) F
   f-meets ((κs, qs, bounds, a, vss), y) =

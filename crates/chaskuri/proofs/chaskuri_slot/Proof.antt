@@ -15,7 +15,7 @@ use Rattle.rows.proofs.Lines.{calls, the, literal}
 use Rattle.rows.proofs.Runs.{runs-lines}
 use Rattle.rows.proofs.Handed.{hands-on}
 use Rattle.rows.proofs.copy_out.Symbol.{name as #copy-out}
-use Rattle.chaskuri.proofs.Promises.{list-numbered}
+use Rattle.chaskuri.proofs.CopyPromises.{list-numbered}
 use Rattle.chaskuri.proofs.by_value.slot_numbers as g
 use Rattle.chaskuri.proofs.by_value.slot_numbers.Symbol as g-def
 use Rattle.chaskuri.proofs.by_value.slot_numbers.Symbol.{name as #g}

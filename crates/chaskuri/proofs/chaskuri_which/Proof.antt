@@ -12,7 +12,7 @@ use Rattle.rows.proofs.Lines.{calls, the, literal}
 use Rattle.rows.proofs.Runs.{runs-lines}
 use Rattle.rows.proofs.Handed.{hands-on}
 use Rattle.rows.proofs.copy_out.Symbol.{name as #copy-out}
-use Rattle.chaskuri.proofs.Promises.{list-chosen}
+use Rattle.chaskuri.proofs.CopyPromises.{list-chosen}
 use Rattle.chaskuri.proofs.by_value.which as g
 use Rattle.chaskuri.proofs.by_value.which.Symbol as g-def
 use Rattle.chaskuri.proofs.by_value.which.Symbol.{name as #g}

@@ -13,7 +13,7 @@ use Rattle.rows.proofs.Lines.{calls, the, literal, lends}
 use Rattle.rows.proofs.Runs.{runs-lines}
 use Rattle.rows.proofs.Handed.{hands-on}
 use Rattle.rows.proofs.copy_out.Symbol.{name as #copy-out}
-use Rattle.chaskuri.proofs.Promises.{list-written}
+use Rattle.chaskuri.proofs.CopyPromises.{list-written}
 use Rattle.chaskuri.proofs.by_value.write as g
 use Rattle.chaskuri.proofs.by_value.write.Symbol as g-def
 use Rattle.chaskuri.proofs.by_value.write.Symbol.{name as #g}

@@ -1,6 +1,6 @@
 -- `claim::cheaper` meets its contract. Assumes nothing.
 use borrow.Author.Needs.{needs}
-use Rattle.claim.specs.Choice.{keeps-own, takes-server, neither}
+use Rattle.claim.specs.steps.Compared.{keeps-own, takes-server, neither}
 use Rattle.claim.proofs.cheaper.Statement.{statement}
 use Rattle.claim.proofs.cheaper.Tie as tie
 

@@ -3,7 +3,7 @@ use mathlib.Core.Path.{refl, sym}
 use borrow.Author.Needs.{needs}
 use lib.Seq.{length-take-le}
 use Rattle.day.proofs.Cases.{give}
-use Rattle.day.proofs.Check.{list-is-check}
+use Rattle.checks.proofs.Check.{list-is-check}
 use Rattle.day.specs.Windows.{windows}
 use Rattle.claim.specs.Choice.{NamesWinner, refused, of-own, of-server}
 use Rattle.claim.proofs.Choice.{chosen-named, named-own, named-server}

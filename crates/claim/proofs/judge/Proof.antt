@@ -1,8 +1,8 @@
 -- `claim::judge` meets its contract. Assumes nothing.
 use borrow.Author.Needs.{needs}
 use Rattle.day.proofs.Cases.{give}
-use Rattle.day.proofs.Refusal.{then-group, then-refused, then-passed}
-use Rattle.day.proofs.Check.{list-is-check}
+use Rattle.checks.proofs.Refusal.{then-group, then-refused, then-passed}
+use Rattle.checks.proofs.Check.{list-is-check}
 use Rattle.claim.proofs.Rows.{rows-none}
 use Rattle.claim.proofs.Claim.{good-rows-within, passed-accepted}
 use Rattle.claim.proofs.judge.Statement.{statement}
@@ -15,8 +15,8 @@ returns c =
       rows = record { accepted = λ e. absurd (c .if1 .taken e); refused = λ e. rows-none _ };
     }
 
-place-requires : tie.Need-place-requires
-place-requires c κs =
+judge-starts-requires : tie.Need-judge-starts-requires
+judge-starts-requires c κs =
     give (passed-accepted _ (c .before .before .check-list .ensures) (c .if1 .left))
     (λ accepted. good-rows-within (accepted .slots) (accepted .rows))
 
@@ -25,9 +25,9 @@ returns-2 c =
     record {
       answer = then-group _
           (then-passed list-is-check _ _ (c .before .before .before .check-list .ensures) (c .before .if1 .left)
-          (c .place .ensures .answer));
-      rows = c .place .ensures .rows;
+          (c .judge-starts .ensures .answer));
+      rows = c .judge-starts .ensures .rows;
     }
 
 pub judge-spec : {M : Type 1} → statement M
-judge-spec = tie.close (tie.spec (λ c κs. search needs) returns place-requires returns-2)
+judge-spec = tie.close (tie.spec (λ c κs. search needs) returns judge-starts-requires returns-2)

@@ -1,7 +1,7 @@
 -- `claim::price` meets its contract. Assumes nothing.
 use borrow.Author.Needs.{needs}
-use Rattle.day.proofs.Refusal.{then-group, then-refused, then-passed}
-use Rattle.day.proofs.Check.{list-is-check}
+use Rattle.checks.proofs.Refusal.{then-group, then-refused, then-passed}
+use Rattle.checks.proofs.Check.{list-is-check}
 use Rattle.claim.proofs.Claim.{passed-accepted}
 use Rattle.claim.proofs.price.Statement.{statement}
 use Rattle.claim.proofs.price.Tie as tie

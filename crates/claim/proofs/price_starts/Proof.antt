@@ -4,26 +4,26 @@ use mathlib.Core.Path.{sym, _∙_, ap}
 use native.Mathlib.Omega.{arith}
 use borrow.Author.Needs.{needs}
 use Rattle.day.specs.Windows.{windows}
-use Rattle.day.specs.Answer.{says, done}
-use Rattle.day.proofs.Refusal.{then-refused, then-passed}
+use Rattle.checks.specs.Answer.{says, done}
+use Rattle.checks.proofs.Refusal.{then-refused, then-passed}
 use Rattle.claim.proofs.Claim.{starts-is-check, good-rows-within}
 use Rattle.claim.proofs.Rows.{Cut, rows-cut}
-use Rattle.claim.proofs.Walk.{rows-cost-day}
+use Rattle.claim.proofs.Paying.{rows-cost-day}
 use Rattle.claim.proofs.price_starts.Statement.{statement}
 use Rattle.claim.proofs.price_starts.Tie as tie
 
-place-requires : tie.Need-place-requires
-place-requires c κs = good-rows-within (c .before .before .before .pre .slots) (c .before .before .before .pre .rows)
+judge-starts-requires : tie.Need-judge-starts-requires
+judge-starts-requires c κs = good-rows-within (c .before .before .before .pre .slots) (c .before .before .before .pre .rows)
 
 returns : tie.Need-returns
-returns c = then-refused _ (c .before .before .before .place .ensures .answer) (c .if1 .taken)
+returns c = then-refused _ (c .before .before .before .judge-starts .ensures .answer) (c .if1 .taken)
 
 -- the day's slots are a part of the rows
-cut : (c : tie.After-wide) → Cut (c .before .before .before .before .before .place .result .rows) (c .wide .result)
+cut : (c : tie.After-wide) → Cut (c .before .before .before .before .before .judge-starts .result .rows) (c .wide .result)
 cut c =
-    let placed = c .before .before .before .before .before in
-    let start = placed .before .before .before .before in
-    rows-cut (placed .place .ensures .rows .accepted (c .before .before .if1 .left)) (c .wide .result)
+    let judged = c .before .before .before .before .before in
+    let start = judged .before .before .before .before in
+    rows-cut (judged .judge-starts .ensures .rows .accepted (c .before .before .if1 .left)) (c .wide .result)
     (omega (arith, c .wide .ensures, start .pre .slots))
 
 array-share-prefix-rows : tie.Need-array-share-prefix-rows
@@ -38,21 +38,21 @@ cost-requires c κs = omega (arith, cut (c .before) .long, cut (c .before) .smal
 returns-2 : tie.Need-returns-2
 returns-2 c =
     let taken = c .before .before .before in
-    let placed = taken .before .before .before .before .before in
-    let start = placed .before .before .before .before in
+    let judged = taken .before .before .before .before .before in
+    let start = judged .before .before .before .before in
     let passed = taken .before .before .if1 .left in
     then-passed (starts-is-check (windows (start .args .releases .now) (start .args .deadlines .now)) (start .args .starts .now)) _ _
-    (placed .place .ensures .answer) passed
+    (judged .judge-starts .ensures .answer) passed
     (c .done .ensures
     ∙ ap (λ (x : ℕ). says done x 0)
     (c .before .cost .ensures
-    ∙ rows-cost-day (start .args .day) (taken .wide .ensures .0) (start .pre .slots) (placed .place .ensures .rows .accepted passed)))
+    ∙ rows-cost-day (start .args .day) (taken .wide .ensures .0) (start .pre .slots) (judged .judge-starts .ensures .rows .accepted passed)))
 
 pub price-starts-spec : {M : Type 1} → statement M
 price-starts-spec =
     tie.close
     (tie.spec
-    place-requires
+    judge-starts-requires
     returns
     (λ c κs. search needs)
     array-share-prefix-rows

@@ -1,8 +1,8 @@
 -- `claim::which` meets its contract. Assumes nothing.
 use borrow.Author.Needs.{needs}
 use Rattle.day.specs.Windows.{windows}
-use Rattle.day.proofs.Refusal.{then-refused, then-passed}
-use Rattle.day.proofs.Check.{list-is-check}
+use Rattle.checks.proofs.Refusal.{then-refused, then-passed}
+use Rattle.checks.proofs.Check.{list-is-check}
 use Rattle.claim.proofs.Claim.{passed-accepted}
 use Rattle.claim.proofs.Choice.{compared-named}
 use Rattle.claim.proofs.which.Statement.{statement}

@@ -2,7 +2,7 @@
 use mathlib.Core.Path.{sym}
 use lib.Seq.{length-take-le}
 use borrow.Author.Needs.{needs}
-use Rattle.report.proofs.Lines.{prints-within}
+use Rattle.text.proofs.Lines.{prints-within}
 use Rattle.dayplan.proofs.print.Statement.{statement}
 use Rattle.dayplan.proofs.print.Tie as tie
 

@@ -4,7 +4,7 @@ use native.Mathlib.Omega.{arith}
 use borrow.Author.Needs.{needs}
 use Rattle.claim.proofs.Rows.{Cut}
 use Rattle.claim.proofs.Claim.{judged-slots, judged-cut}
-use Rattle.ledger.proofs.Same.{plan-counted}
+use Rattle.ledger.proofs.SameRows.{plan-counted}
 use Rattle.ledger.proofs.ledger.Statement.{statement}
 use Rattle.ledger.proofs.ledger.Tie as tie
 

@@ -2,12 +2,12 @@
 use mathlib.Core.Path.{refl, sym}
 use native.Mathlib.Omega.{arith}
 use borrow.Author.Needs.{needs}
-use Rattle.day.specs.Refusal.{stops, goes-on}
-use Rattle.day.proofs.Refusal.{then-refused}
-use Rattle.day.proofs.Check.{list-is-check}
+use Rattle.checks.specs.Refusal.{stops, goes-on}
+use Rattle.checks.proofs.Refusal.{then-refused}
+use Rattle.checks.proofs.Check.{list-is-check}
 use Rattle.claim.proofs.Rows.{Cut}
 use Rattle.claim.proofs.Claim.{judged-next, judged-says, judged-slots, judged-cut}
-use Rattle.ledger.proofs.Same.{plan-filled}
+use Rattle.ledger.proofs.SameRows.{plan-filled}
 use Rattle.ledger.proofs.slot.Statement.{statement}
 use Rattle.ledger.proofs.slot.Tie as tie
 

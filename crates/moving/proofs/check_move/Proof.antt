@@ -5,9 +5,10 @@ use mir.Syntax.{w16}
 use mir.ValLaws.{toZ-ofZ}
 use borrow.Author.Needs.{needs}
 use Rattle.day.specs.Windows.{windows}
-use Rattle.day.specs.Refusal.{stops, goes-on, FirstOrEnd}
-use Rattle.day.proofs.Check.{times-is-check, clear-good-rows}
-use Rattle.day.proofs.Refusal.{then-group, then-refused, then-passed, then-clear, clear-next, passed-clear, found-refused, end-clear}
+use Rattle.checks.specs.Refusal.{stops, goes-on}
+use Rattle.checks.specs.steps.FirstOrEnd.{FirstOrEnd}
+use Rattle.checks.proofs.Check.{times-is-check, clear-good-rows}
+use Rattle.checks.proofs.Refusal.{then-group, then-refused, then-passed, then-clear, clear-next, passed-clear, found-refused, end-clear}
 use Rattle.moving.specs.Moving.{LeavesDay}
 use Rattle.moving.proofs.check_move.Statement.{statement}
 use Rattle.moving.proofs.check_move.Tie as tie

@@ -10,7 +10,7 @@ use borrow.Author.Count.{below-more}
 use borrow.Author.Needs.{needs}
 use Rattle.day.specs.Windows.{windows}
 use Rattle.moving.specs.Moving.{LeavesDay}
-use Rattle.moving.specs.Steps.{Decides}
+use Rattle.moving.specs.steps.Movable.{Decides}
 use Rattle.moving.proofs.first_leaving.Statement.{statement}
 use Rattle.moving.proofs.first_leaving.Tie as tie
 
@@ -34,18 +34,6 @@ decided : (c : tie.After-leaves-day Inv-loop μ-loop) →
     (c .leaves-day .result)
 decided c = rw (c .before .at-or-zero .ensures) at (c .leaves-day .ensures)
 
-mul-leaves-day : tie.Need-mul-leaves-day Inv-loop μ-loop
-mul-leaves-day c = omega arith
-
-shared-slice-read-leaves-day : tie.Need-shared-slice-read-leaves-day Inv-loop μ-loop
-shared-slice-read-leaves-day c = omega arith
-
-at-or-zero-requires : tie.Need-at-or-zero-requires Inv-loop μ-loop
-at-or-zero-requires c κs = omega arith
-
-leaves-day-requires : tie.Need-leaves-day-requires Inv-loop μ-loop
-leaves-day-requires c κs = omega arith
-
 returns : tie.Need-returns Inv-loop μ-loop
 returns c =
     let at-loop = c .before .before .before .before .before in
@@ -55,12 +43,6 @@ returns c =
       fault = λ h. decided (c .before) .holds (c .if1 .taken);
       lowest = at-loop .loop .inv .1;
     })
-
-add-row : tie.Need-add-row Inv-loop μ-loop
-add-row c = omega arith
-
-loop-less : tie.Need-loop-less Inv-loop μ-loop
-loop-less c = omega arith
 
 loop-again : tie.Need-loop-again Inv-loop μ-loop
 loop-again c =
@@ -79,12 +61,12 @@ first-leaving-spec =
     Inv-loop
     μ-loop
     (λ c. search needs)
-    mul-leaves-day
-    shared-slice-read-leaves-day
-    at-or-zero-requires
-    leaves-day-requires
+    (λ c. search needs)
+    (λ c. search needs)
+    (λ c κs. search needs)
+    (λ c κs. search needs)
     returns
-    add-row
-    loop-less
+    (λ c. search needs)
+    (λ c. search needs)
     loop-again
     returns-2)

@@ -6,10 +6,11 @@ use lib.IntN.{pos}
 use mir.Syntax.{w16, w32}
 use mir.Val.{toZ, ofZ}
 use mir.ValLaws.{toZ-ofZ}
-use Rattle.day.specs.Change.{Shifts}
+use borrow.Author.Needs.{needs}
+use Rattle.day.specs.Moved.{Shifts}
 use Rattle.day.specs.Windows.{at}
-use Rattle.day.proofs.FirstFilled.{filled-none, filled-next}
-use Rattle.moving.specs.Steps.{FirstMoved}
+use Rattle.day.proofs.Changed.{filled-none, filled-next, filled-rest}
+use Rattle.moving.specs.Moving.{FirstMoved}
 use Rattle.moving.proofs.Signs.{moved-reads}
 use Rattle.moving.proofs.move_first.Statement.{statement}
 use Rattle.moving.proofs.move_first.Tie as tie
@@ -39,34 +40,13 @@ reads c =
     let at-loop = c .before .before .before .loop in
     let fits : at (at-loop .list) (at-loop .row) < 65536 = omega (arith, c .before .slice-known2 .given (at-loop .row)) in
     moved-reads (at (at-loop .list) (at-loop .row)) (start .args .by) fits (start .fits .by) (c .moved .ensures)
-    ∙ rw (at-loop .inv .1 .rest (at-loop .row) (omega arith)) (place c .2)
+    ∙ rw (filled-rest (at-loop .inv .1) (at-loop .row) (omega arith)) (place c .2)
 
 loop-holds : tie.Need-loop-holds Inv-loop μ-loop
 loop-holds c = (omega arith, filled-none)
 
-mul-moved : tie.Need-mul-moved Inv-loop μ-loop
-mul-moved c = omega arith
-
-slice-read-moved : tie.Need-slice-read-moved Inv-loop μ-loop
-slice-read-moved c = omega arith
-
-moved-requires : tie.Need-moved-requires Inv-loop μ-loop
-moved-requires c κs = omega arith
-
 cast-list : tie.Need-cast-list Inv-loop μ-loop
 cast-list c = rw (reads c) (tt, record { fits = place c .1 })
-
-mul-list : tie.Need-mul-list Inv-loop μ-loop
-mul-list c = omega arith
-
-slice-write-list : tie.Need-slice-write-list Inv-loop μ-loop
-slice-write-list c = omega arith
-
-add-row : tie.Need-add-row Inv-loop μ-loop
-add-row c = omega arith
-
-loop-less : tie.Need-loop-less Inv-loop μ-loop
-loop-less c = omega arith
 
 loop-again : tie.Need-loop-again Inv-loop μ-loop
 loop-again c =
@@ -77,7 +57,7 @@ loop-again c =
     )
 
 same-length : tie.Need-same-length Inv-loop μ-loop
-same-length c = c .before .loop .inv .1 .as-long
+same-length c = c .before .loop .inv .1 .long
 
 returns : tie.Need-returns Inv-loop μ-loop
 returns c =
@@ -92,14 +72,14 @@ move-first-spec =
     Inv-loop
     μ-loop
     loop-holds
-    mul-moved
-    slice-read-moved
-    moved-requires
+    (λ c. search needs)
+    (λ c. search needs)
+    (λ c κs. search needs)
     cast-list
-    mul-list
-    slice-write-list
-    add-row
-    loop-less
+    (λ c. search needs)
+    (λ c. search needs)
+    (λ c. search needs)
+    (λ c. search needs)
     loop-again
     same-length
     returns)

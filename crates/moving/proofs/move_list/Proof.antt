@@ -5,12 +5,12 @@ use mir.Syntax.{w16}
 use mir.Val.{toZ, ofZ}
 use mir.ValLaws.{toZ-ofZ}
 use borrow.Author.Needs.{needs}
-use Rattle.day.specs.Refusal.{_then_, Passed}
-use Rattle.day.specs.Check.{TimesCheck}
+use Rattle.checks.specs.Refusal.{_then_, Passed}
+use Rattle.checks.specs.Check.{TimesCheck}
 use Rattle.day.specs.Windows.{windows}
-use Rattle.day.proofs.Check.{good-rows-deadlines}
+use Rattle.checks.proofs.Check.{good-rows-deadlines}
 use Rattle.moving.specs.Moving.{MoveCheck}
-use Rattle.moving.proofs.Moving.{Acceptable, acceptable, releases-movable, deadlines-movable, rows-moved}
+use Rattle.moving.proofs.Moving.{Acceptable, acceptable, releases-movable, deadlines-movable}
 use Rattle.moving.proofs.move_list.Statement.{statement}
 use Rattle.moving.proofs.move_list.Tie as tie
 
@@ -63,7 +63,10 @@ returns-2 c =
     record {
       answer = judged (known .before .before);
       accepted = λ e.
-          rows-moved (rw (same-shift start) at (first .move-first .ensures)) (rw (same-shift start) at (second .move-first2 .ensures));
+          record {
+            moved-releases = rw (same-shift start) at (first .move-first .ensures);
+            moved-deadlines = rw (same-shift start) at (second .move-first2 .ensures);
+          };
       refused = λ h. absurd (h (known .if1 .left));
     }
 

@@ -3,7 +3,7 @@ use mathlib.Core.Path.{sym, _∙_}
 use native.Mathlib.Omega.{arith}
 use lib.ListN.{getD-replicate}
 use denote.Ref.{now}
-use Rattle.planner.specs.steps.Jobs.{none}
+use Rattle.planner.specs.steps.Jobs.{planner-none}
 use Rattle.planner.proofs.Finished.{room, room-for-prices, priced-small, tabled}
 use borrow.Author.Needs.{needs}
 use Rattle.planner.proofs.fill_table.Statement.{statement}
@@ -13,8 +13,8 @@ price-level-requires : tie.Need-price-level-requires
 price-level-requires c κs =
     let start = c .before .before .before .before .before .before in
     let given = start .pre .0 in (
-      given .lendable .fits,
-      (given .jobs .slots, given .points, given .lendable .rows, room-for-prices given (now (start .args .table)) (start .pre .1)),
+      given .prepared .fits,
+      (given .jobs .slots, given .points, given .prepared .bands, room-for-prices given (now (start .args .table)) (start .pre .1)),
     )
 
 fill-requires : tie.Need-fill-requires
@@ -22,13 +22,13 @@ fill-requires c κs =
     let start = c .before .before .before .before .before .before .before .before .before .before .before in
     let given = start .pre .0 in
     let priced = c .before .before .before .before .price-level .ensures in (
-      given .lendable,
+      given .prepared,
       (
         (
           omega (arith, start .pre .1, priced .long, room given (now (start .args .table)) (start .pre .1)),
           record {
             long = omega (arith, given .points, given .jobs .slots);
-            none = λ e h. getD-replicate 99 e none 0 (omega (arith, given .points, given .jobs .slots)) ∙ sym (given .none);
+            none = λ e h. getD-replicate 99 e planner-none 0 (omega (arith, given .points, given .jobs .slots)) ∙ sym (given .none);
           },
         ),
         priced-small given (now (start .args .table)) (start .pre .1) _ priced,

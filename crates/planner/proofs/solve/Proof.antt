@@ -1,96 +1,65 @@
--- `planner::solve` meets its contract: rows are put into number order, and what that gives is planned. Assumes nothing.
-use Prim.Native.Nat.{ℕ}
-use mathlib.Core.Path.{_≡_, ap, _∙_}
-use mathlib.Core.List.{List}
+-- `planner::solve` meets its contract: releases and deadlines are put into number order, and what is found of them is told. Assumes nothing.
+use mathlib.Core.Path.{ap}
 use native.Mathlib.Omega.{arith}
-use lib.ListN.{length}
 use denote.Ref.{now}
-use Rattle.day.specs.Windows.{at}
-use Rattle.day.specs.Number.{Numbered}
 use Rattle.day.proofs.Cases.{give}
 use Rattle.planner.specs.Table.{need}
-use Rattle.planner.proofs.Accepted.{numbered-new, releases-fit, deadlines-fit, row-below-count, rows-apart, prepared-of, solved}
+use Rattle.planner.proofs.Accepted.{releases-fit, deadlines-fit, row-below-count, rows-apart, within-limits, starts-found, solved}
 use borrow.Author.Needs.{needs}
 use Rattle.planner.proofs.solve.Statement.{statement}
 use Rattle.planner.proofs.solve.Tie as tie
 
--- once the rows are numbered
-module _ (c : tie.After-number-rows) where
-  abbrev start : tie.Start
-  start = c .before .before .before .before .before .before .before
-
-  abbrev releases : List ℕ
-  releases = now (start .args .releases)
-
-  abbrev deadlines : List ℕ
-  deadlines = now (start .args .deadlines)
-
-  abbrev order : List ℕ
-  order = c .number-rows .last .1 .0
-
-  all : length order ≡ length releases
-  all = c .number-rows .ensures .places ∙ start .pre .1 .0 .0
-
-  numbered : Numbered (length order) (at deadlines) (at order)
-  numbered = numbered-new deadlines (now (start .args .order)) order (c .number-rows .ensures)
-
 by-number-requires : tie.Need-by-number-requires
 by-number-requires c κs =
-    let n = c .before .before .before .before in (
-      omega (arith, start n .pre .0 .rows .count),
-      λ k h. give (releases-fit (start n .args .day) (releases n) (deadlines n) (order n) (start n .pre .0) _ (all n) (numbered n) k h)
-          (λ f. (f .0, omega arith)),
+    let s = c .before .before .before .before .before in (
+      omega (arith, s .pre .0 .all, s .pre .0 .accepted .rows .count),
+      λ k h. give (releases-fit (s .pre .0) k h) (λ f. (f .0, omega (arith, f .1))),
     )
 
 by-number-requires-2 : tie.Need-by-number-requires-2
 by-number-requires-2 c κs =
-    let n = c .before .before .before .before .before .before .before .before in (
-      omega (arith, start n .pre .0 .rows .count),
-      λ k h. give (deadlines-fit (start n .args .day) (releases n) (deadlines n) (order n) (start n .pre .0) _ (all n) (numbered n) k h)
-          (λ f. (f .0, omega arith)),
+    let s = c .before .before .before .before .before .before in (
+      omega (arith, s .pre .0 .all, s .pre .0 .accepted .rows .count),
+      λ k h. give (deadlines-fit (s .pre .0) k h) (λ f. (f .0, omega (arith, f .1))),
     )
 
 plan-numbered-requires : tie.Need-plan-numbered-requires
 plan-numbered-requires c κs =
-    let n = c .before .before .before .before .before .before .before .before .before .before .before .before .before .before .before in
-    let day = start n .args .day in
-    let accepted = start n .pre .0 in (
-      prepared-of day (releases n) (deadlines n) (order n) accepted (length (order n)) (all n) (numbered n) _ _ _ _
-          (c .before .before .before .before .before .before .before .before .before .before .by-number .ensures) (c .before .before .before .before .before .before .by-number2 .ensures)
-          (omega (arith, accepted .rows .count, all n)) (omega (arith, accepted .rows .count, all n)),
+    let s = c .before .before .before .before .before .before .before .before .before .before in (
+      within-limits (s .pre .0) _ _ (c .before .before .before .before .by-number .ensures) (c .before .before .before .by-number2 .ensures),
+      omega (arith, ap (need (s .args .day .slots)) (s .pre .0 .all), s .pre .1 .1),
+    )
+
+tell-requires : tie.Need-tell-requires
+tell-requires c κs =
+    let s = c .before .before .before .before .before .before .before .before .before .before .before .before .before .before in (
       (
-        omega (arith, ap (need (day .slots)) (all n), start n .pre .1 .1),
-        (
-          λ k h. omega (
-            arith,
-            row-below-count day (releases n) (deadlines n) (order n) accepted (length (order n)) (all n) (numbered n) k h,
-            start n .pre .1 .0,
-          ),
-          rows-apart day (releases n) (deadlines n) (order n) accepted (length (order n)) (all n) (numbered n),
-        ),
+        s .pre .0 .accepted .wake,
+        starts-found (s .pre .0) _ _ (c .before .before .before .before .before .before .before .before .by-number .ensures) (c .before .before .before .before .before .before .before .by-number2 .ensures) _ _ _
+            (c .before .before .before .plan-numbered .ensures),
+      ),
+      (
+        λ k h. omega (arith, row-below-count (s .pre .0) k h, s .pre .1 .0),
+        rows-apart (s .pre .0),
       ),
     )
 
 returns : tie.Need-returns
 returns c =
-    let n = c .before .before .before .before .before .before .before .before .before .before .before .before .before .before .before .before .before .before .before .before in
-    solved (start n .args .day) (releases n) (deadlines n) (order n) (start n .pre .0) (length (order n)) (all n) (numbered n) _ _ _ _
-    (c .before .before .before .before .before .before .before .before .before .before .before .before .before .before .before .by-number .ensures) (c .before .before .before .before .before .before .before .before .before .before .before .by-number2 .ensures)
-    (now (start n .args .starts)) (now (start n .args .table)) _ _ _ (c .before .before .before .before .plan-numbered .ensures)
+    let s = c .before .before .before .before .before .before .before .before .before .before .before .before .before .before .before .before .before in
+    solved (s .pre .0) _ _ (c .before .before .before .before .before .before .before .before .before .before .before .by-number .ensures) (c .before .before .before .before .before .before .before .before .before .before .by-number2 .ensures) _ _ _
+    (c .before .before .before .before .before .before .plan-numbered .ensures) (now (s .args .starts)) _ _ (c .before .before .tell .ensures)
 
 pub solve-spec : {M : Type 1} → statement M
 solve-spec =
     tie.close
     (tie.spec
-    (λ c κs. search needs)
-    (λ c. search needs)
     by-number-requires
-    (λ c. search needs)
     by-number-requires-2
     (λ c. search needs)
     (λ c. search needs)
     plan-numbered-requires
-    (λ c. search needs)
+    tell-requires
     (λ c. search needs)
     (λ c. search needs)
     returns)

@@ -1,37 +1,44 @@
--- What is left to do once the jobs are in number order: the table is filled, and by its value for the whole day the plan is written out,
--- or there is none.
-use Prim.Native.Nat.{ℕ, _+_, _-_, _≤_, _<_}
+-- What is found of jobs in number order: the table is filled, the plan is read back from it, and by the value of the whole day it is told.
+use Prim.Native.Nat.{ℕ, _-_, _≤_, _<_}
 use mathlib.Core.Path.{_≡_}
 use mathlib.Core.List.{List}
 use lib.ListN.{length}
-use Rattle.day.specs.declared.Answer.{Answer}
+use Rattle.checks.specs.declared.Answer.{Answer}
 use Rattle.day.specs.declared.Day.{Day}
 use Rattle.day.specs.Windows.{at}
-use Rattle.day.specs.Answer.{says, done, no-plan}
-use Rattle.day.specs.Zero.{zeroed}
+use Rattle.day.specs.Changed.{Changed, Below, OnlyFirst}
+use Rattle.checks.specs.Answer.{says, done, no-plan}
+use Rattle.checks.specs.Check.{most-jobs}
 use Rattle.rule.specs.Span.{Problem, value, read-back}
 use Rattle.rule.specs.Whole.{without-ends}
 use Rattle.engine.specs.Lent.{Lent, layout-of}
-use Rattle.engine.specs.Filled.{Level, Small}
+use Rattle.engine.specs.Filled.{ValuesHeld, Small}
+use Rattle.planner.specs.declared.Found.{Found}
 use Rattle.planner.specs.Table.{need}
-use Rattle.planner.specs.steps.Jobs.{none, Asks}
+use Rattle.planner.specs.steps.Jobs.{planner-none, PosedAtPrices}
+
+-- the table holds the values of a problem for at most n jobs
+abbrev pub Levels : Problem → Lent → ℕ → List ℕ → Type 0
+Levels P G n table = (i : ℕ) → i ≤ n → ValuesHeld P (layout-of G) i table
 
 -- the table holds the values of every problem that the lists pose; what n jobs don't need is as it was
 pub record Tabled (day : Day) (G : Lent) (n : ℕ) (old new : List ℕ) : Type 0 where
-  pub long : length new ≡ length old
-  pub small : (i : ℕ) → i ≤ n → Small G i new
-  pub values : (P : Problem) → Asks day G n P → (i : ℕ) → i ≤ n → Level P (layout-of G) i new
-  pub beyond : (j : ℕ) → need (day .slots) n ≤ j → at new j ≡ at old j
+  pub changed : OnlyFirst (need (day .slots) n) old new
+  pub small : (i : ℕ) → i ≤ n → Small (layout-of G) (G .shape .none) i new
+  pub values : (P : Problem) → PosedAtPrices day G n P → Levels P G n new
+
+-- the value of n jobs up to the point `end`, and if there is a plan its starts by number
+pub record Finds (P : Problem) (n end : ℕ) (found : Found) : Type 0 where
+  pub value-is : found .value ≡ value P n 0 end
+  pub long : length (found .starts) ≡ most-jobs
+  pub each : value P n 0 end < P .none → (k : ℕ) → k < n → at (found .starts) k ≡ read-back P n 0 end k
 
 -- each row has the start of its number, a slot in place of a point; starts of no row are as they were
-pub record Laid (order : List ℕ) (n : ℕ) (b : ℕ → ℕ) (starts starts′ : List ℕ) : Type 0 where
-  pub long : length starts′ ≡ length starts
-  pub slot : (k : ℕ) → k < n → at starts′ (at order k) ≡ b k - 1
-  pub others : (j : ℕ) → ((k : ℕ) → k < n → j ≡ at order k → ⊥) → at starts′ j ≡ at starts j
+abbrev pub Laid : List ℕ → ℕ → (ℕ → ℕ) → List ℕ → List ℕ → Type 0
+Laid order n b = Changed (Below n) (at order) (λ k y. y ≡ b k - 1)
 
--- n jobs of a problem are finished with: the answer by the value of the whole day, the starts, and the table set to zero
-pub record Finished (day : Day) (P : Problem) (order : List ℕ) (n : ℕ) (starts table : List ℕ) (a : Answer) (starts′ table′ : List ℕ) : Type 0 where
-  pub found : value P n 0 (day .slots + 2) < none
-      → (a ≡ says done (without-ends day n (value P n 0 (day .slots + 2))) 0) × Laid order n (read-back P n 0 (day .slots + 2)) starts starts′
-  pub not-found : none ≤ value P n 0 (day .slots + 2) → (a ≡ says no-plan 0 0) × (starts′ ≡ starts)
-  pub cleared : table′ ≡ zeroed (need (day .slots) n) table
+-- the answer by the value found, and the starts
+pub record Told (day : Day) (order : List ℕ) (found : Found) (starts : List ℕ) (a : Answer) (starts-after : List ℕ) : Type 0 where
+  pub planned : found .value < planner-none
+      → (a ≡ says done (without-ends day (length order) (found .value)) 0) × Laid order (length order) (at (found .starts)) starts starts-after
+  pub unplanned : planner-none ≤ found .value → (a ≡ says no-plan 0 0) × (starts-after ≡ starts)

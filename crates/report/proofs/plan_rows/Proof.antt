@@ -13,7 +13,7 @@ cast-t17 : tie.Need-cast-t17
 cast-t17 c = omega (arith, found-accepted (c .before .before .before .before .before .before .before .before .before .plan .ensures) (c .before .before .before .if1 .left) .rows .count)
 
 returns-2 : tie.Need-returns-2
-returns-2 c = found-reported (c .before .before .before .before .before .before .before .before .before .plan .ensures) (c .before .before .before .if1 .left) (c .before .ledger .ensures) refl refl
+returns-2 c = found-reported (c .before .before .before .before .before .before .before .before .before .plan .ensures) (c .before .before .before .if1 .left) (c .before .ledger .ensures) refl
 
 pub plan-rows-spec : {M : Type 1} → statement M
 plan-rows-spec =

@@ -6,12 +6,12 @@ use Rattle.report.proofs.report.Tie as tie
 
 returns : tie.Need-returns
 returns c =
-    let planned = c .before .before .before .before .before .plan-file in
+    let planned = c .before .before .before .before .before .plan-input in
     record {
       outcome = planned .result;
       starts = planned .last .1 .0;
       reported = planned .ensures;
-      prints = rw (all-rows-shown (planned .ensures)) at (c .render .ensures);
+      prints = rw (all-rows-shown _ _ _ (planned .ensures)) at (c .render .ensures);
     }
 
 pub report-spec : {M : Type 1} → statement M

@@ -51,9 +51,9 @@ use Rattle.day.specs.declared.Job.{Job}
 use Rattle.day.proofs.Job as T
 use Rattle.day.proofs.Job.Laws as T′
 use Rattle.rows.specs.declared.Rows.{Rows}
-use Rattle.rows.specs.Rows.{none, copied, no-rows, with-job, rows-from, rows-of}
+use Rattle.rows.specs.Rows.{no-job, copy-count, no-rows, with-job, rows-from, rows-of}
 use Rattle.rows.proofs.Setting.{R, S, machine, leaves}
-use Rattle.rows.proofs.Counted.{counts, has, asks, free-at, free-room}
+use Rattle.rows.proofs.CountedLoop.{counts, has, plain-call, free-at, free-room}
 use Rattle.rows.proofs.Rows as P
 use Rattle.rows.proofs.Rows.Laws as P′
 use Rattle.rows.proofs.rows_copied as rows-copied
@@ -135,7 +135,7 @@ module _ {M : Type 1} (𝓤 : URA M) (H : Heap 𝓤) (A : Atoms 𝓤) (W : Given
         nothing ! $ move ! (1 ∷ 0 ∷ []) $ join ! $ owned ! S (Is S) (LL.makes P.the-type P′.the-plain 𝓤 H A) rows _ is $ move ! (1 ∷ 0 ∷ []) $ join ! $ frame ! $ says ! e $ nothing ! $ nothing ! $ fjoin ! $ nothing ! $ fjoin ! $ done !
 
     -- from what `rows_copied` and `no_rows` return: the walk goes by no more than their contracts
-    module _ (end : ℕ) (ends-there : end ≡ copied n start) (p₀ : Rows) (e₀ : p₀ ≡ no-rows end) (q′ : Share) (l₀ l₁ l₂ l₃ l₄ l₅ l₆ l₇ l₈ l₉ l₁₀ l₁₁ : ℕ) where
+    module _ (end : ℕ) (ends-there : end ≡ copy-count n start) (p₀ : Rows) (e₀ : p₀ ≡ no-rows end) (q′ : Share) (l₀ l₁ l₂ l₃ l₄ l₅ l₆ l₇ l₈ l₉ l₁₀ l₁₁ : ℕ) where
       abbrev rows : ℕ → Rows
       rows i = rows-from p₀ i (from-on start ys)
 
@@ -153,7 +153,7 @@ module _ {M : Type 1} (𝓤 : URA M) (H : Heap 𝓤) (A : Atoms 𝓤) (W : Given
       Left = afterBlock 𝓤 H (afterSeq 𝓤 H (Wp 𝓤 H (𝓣 .C) (𝓣 .Λ) En rest (atReturn 𝓤 H En (F .post at))) (atReturn 𝓤 H En (F .post at)))
 
       abbrev j : ℕ → Job
-      j i = getD ys (start + i) none
+      j i = getD ys (start + i) no-job
 
       abbrev to-with : ℕ → With .Ghost
       to-with i = ((tt, tt, tt, (rows i, (i, (j i, tt))), (machine (rows i) ∷ [], (vint w64 i ∷ [], (T′.lowered (j i) ∷ [], tt)))), tt)
@@ -169,14 +169,14 @@ module _ {M : Type 1} (𝓤 : URA M) (H : Heap 𝓤) (A : Atoms 𝓤) (W : Given
           assigns ! (bin ! (load ! (from ! (stop !)) (look ! 8 refl)) (lit ! tt) (record { fits = by4 })) (from ! (stop !)) (init ! 6 refl (tt, record { fits = by4 })) $
           assigns ! (bin ! (load ! (from ! (fld ! refl (stop !))) (look-in ! 22 (sub ! 0 refl (whole !)))) (load ! (from ! (stop !)) (look ! 6 refl)) tt) (from ! (stop !)) (init ! 4 refl (tt, tt)) $
           rewrite ! 4 (λ (p : ℕ). ‵ (fat fullShare tyPtr l₁₀ 0 (vptr b p))) (sym (place-is 4 o (start + i))) refl $
-          elem-out ! R (Is R) (shows 𝓤 H A R) (LL.vals T.the-type T′.the-laws) (LL.tells T.the-type T′.the-laws) q′ ys (start + i) none b o inside (λ g.
+          elem-out ! R (Is R) (shows 𝓤 H A R) (LL.vals T.the-type T′.the-laws) (LL.tells T.the-type T′.the-laws) q′ ys (start + i) no-job b o inside (λ g.
           -- [the record; what it owns; the others; the open borrow; _11; …; _10; …]
           assigns ! (of-opd ! (load ! (from ! (hop ! (look ! 6 refl) (stop !))) (look-raw ! 0 refl))) (from ! (stop !)) (init ! 4 refl (LL.lawful T.the-type T′.the-laws 𝓤 H A W .typed (j i) _ g .0)) $
-          elem-back ! R q′ ys (start + i) none (T′.lowered (j i) ∷ []) b o inside $
-          asks ! fm With known (to-with i) (has 𝓤 _ _ (owns-make 𝓤 H A (S ∷ usize ∷ R ∷ []) (Is S, (Is usize, (Is R, tt))) (LL.makes P.the-type P′.the-plain 𝓤 H A, (uint-makes 𝓤 H A W w64, (LL.makes T.the-type T′.the-plain 𝓤 H A, tt))) (rows i, (i, (j i, tt))) (machine (rows i) ∷ [], (vint w64 i ∷ [], (T′.lowered (j i) ∷ [], tt))) (good, ((refl, (omega (arith, few))), (g, tt)))) (factI 𝓤 (i < 41) (emp 𝓤) few))
+          elem-back ! R q′ ys (start + i) no-job (T′.lowered (j i) ∷ []) b o inside $
+          plain-call ! fm With known (to-with i) (has 𝓤 _ _ (owns-make 𝓤 H A (S ∷ usize ∷ R ∷ []) (Is S, (Is usize, (Is R, tt))) (LL.makes P.the-type P′.the-plain 𝓤 H A, (uint-makes 𝓤 H A W w64, (LL.makes T.the-type T′.the-plain 𝓤 H A, tt))) (rows i, (i, (j i, tt))) (machine (rows i) ∷ [], (vint w64 i ∷ [], (T′.lowered (j i) ∷ [], tt))) (good, ((refl, (omega (arith, few))), (g, tt)))) (factI 𝓤 (i < 41) (emp 𝓤) few))
           S (λ r. r ≡ with-job (rows i) i (j i)) (Lasts joined.ended tt (rows i, (i, (j i, tt)))) (λ ws. sem 𝓤 H A (lasts joined.ended tt (rows i, (i, (j i, tt))) ws)) (λ v. id⊢ 𝓤 _)
           (and-then ! (load ! (from ! (stop !)) (look ! 17 refl)) (and-then ! (load ! (from ! (stop !)) (look ! 15 refl)) (and-then ! (load ! (from ! (stop !)) (look ! 3 refl)) (no-more !)))) (λ r v is e.
-          let next-rows : r ≡ rows (suc i) = e ∙ ap (with-job (rows i) i) (sym (getD-drop start ys i none)) in
+          let next-rows : r ≡ rows (suc i) = e ∙ ap (with-job (rows i) i) (sym (getD-drop start ys i no-job)) in
           land ! (from ! (stop !)) (store ! 16 refl (LL.lawful P.the-type P′.the-laws 𝓤 H A W .typed r _ is .0)) $
           rewrite ! 16 (λ (z : Val). ‵ (fat fullShare rowsTy l₄ 0 z)) (ap only (LL.tells P.the-type P′.the-laws r _ is) ∙ ap machine next-rows) refl $
           assigns-last ! (bin ! (load ! (from ! (stop !)) (look ! 14 refl)) (lit ! tt) (record { fits = next })) (from ! (stop !)) (store ! 14 refl (tt, record { fits = next })) $
@@ -223,12 +223,12 @@ module _ {M : Type 1} (𝓤 : URA M) (H : Heap 𝓤) (A : Atoms 𝓤) (W : Given
         alloc1 ! (λ l₀. alloc1 ! (λ l₁. alloc1 ! (λ l₂. alloc1 ! (λ l₃. alloc1 ! (λ l₄. alloc1 ! (λ l₅. alloc1 ! (λ l₆. alloc1 ! (λ l₇. alloc1 ! (λ l₈. alloc1 ! (λ l₉. alloc1 ! (λ l₁₀. alloc1 ! (λ l₁₁. alloc0 ! $ params1 ! $
         pass1 ! (init ! 20 refl (tt, (tt, (record { fits = room .0 }, tt)))) $ pass1 ! (init ! 18 refl (tt, record { fits = fits })) $ pass0 ! $
         assigns ! (of-opd ! (load ! (from ! (fld ! refl (stop !))) (look-in ! 20 (sub ! 1 refl (whole !))))) (from ! (stop !)) (init ! 10 refl (tt, record { fits = room .0 })) $
-        asks ! fm Copied known-copied ((tt, tt, tt, (n, (start, tt)), (vint w64 n ∷ [], (vint w64 start ∷ [], tt))), tt)
+        plain-call ! fm Copied known-copied ((tt, tt, tt, (n, (start, tt)), (vint w64 n ∷ [], (vint w64 start ∷ [], tt))), tt)
         (has 𝓤 _ _ (owns-make 𝓤 H A (usize ∷ usize ∷ []) (Is usize, (Is usize, tt)) (uint-makes 𝓤 H A W w64, (uint-makes 𝓤 H A W w64, tt)) (n, (start, tt)) (vint w64 n ∷ [], (vint w64 start ∷ [], tt)) ((refl, room .0), ((refl, fits), tt))) (id⊢ 𝓤 (emp 𝓤)))
-        usize (λ m. m ≡ copied n start) (Lasts rows-copied.ended tt (n, (start, tt))) (λ ws. sem 𝓤 H A (lasts rows-copied.ended tt (n, (start, tt)) ws)) (λ v. id⊢ 𝓤 _)
+        usize (λ m. m ≡ copy-count n start) (Lasts rows-copied.ended tt (n, (start, tt))) (λ ws. sem 𝓤 H A (lasts rows-copied.ended tt (n, (start, tt)) ws)) (λ v. id⊢ 𝓤 _)
         (and-then ! (load ! (from ! (stop !)) (look ! 11 refl)) (and-then ! (load ! (from ! (stop !)) (look ! 19 refl)) (no-more !))) (λ m v is-m e-m.
         land ! (from ! (stop !)) (init ! 16 refl (uint-lawful 𝓤 H A W w64 .typed m _ is-m .0)) $ rewrite ! 16 (λ (z : Val). ‵ (fat fullShare word l₃ 0 z)) (ap only (is-m .0)) refl $
-        asks ! fm NoRows known-none ((tt, tt, tt, (m, tt), (vint w64 m ∷ [], tt)), tt) (has 𝓤 _ _ (owns-make 𝓤 H A (usize ∷ []) (Is usize, tt) (uint-makes 𝓤 H A W w64, tt) (m, tt) (vint w64 m ∷ [], tt) ((refl, is-m .1), tt)) (id⊢ 𝓤 (emp 𝓤)))
+        plain-call ! fm NoRows known-none ((tt, tt, tt, (m, tt), (vint w64 m ∷ [], tt)), tt) (has 𝓤 _ _ (owns-make 𝓤 H A (usize ∷ []) (Is usize, tt) (uint-makes 𝓤 H A W w64, tt) (m, tt) (vint w64 m ∷ [], tt) ((refl, is-m .1), tt)) (id⊢ 𝓤 (emp 𝓤)))
         S (λ r. r ≡ no-rows m) (Lasts blank.ended tt (m, tt)) (λ ws. sem 𝓤 H A (lasts blank.ended tt (m, tt) ws)) (λ v′. id⊢ 𝓤 _)
         (and-then ! (load ! (from ! (stop !)) (look ! 17 refl)) (no-more !)) (λ r v′ is e.
         land ! (from ! (stop !)) (init ! 14 refl (LL.lawful P.the-type P′.the-laws 𝓤 H A W .typed r _ is .0)) $ rewrite ! 14 (λ (z : Val). ‵ (fat fullShare rowsTy l₄ 0 z)) (ap only (LL.tells P.the-type P′.the-laws r _ is)) refl $

@@ -49,10 +49,10 @@ use Rattle.day.specs.declared.Job.{Job}
 use Rattle.day.proofs.Job as T
 use Rattle.day.proofs.Job.Laws as T′
 use Rattle.rows.specs.declared.Rows.{Rows}
-use Rattle.rows.specs.Rows.{none, put-count, put-first, job-at}
-use Rattle.rows.proofs.Put.{put-within, put-few, put-length}
+use Rattle.rows.specs.Rows.{no-job, put-count, put-first, job-at}
+use Rattle.rows.proofs.PutOver.{put-within, put-few, put-length}
 use Rattle.rows.proofs.Setting.{R, S, machine, leaves}
-use Rattle.rows.proofs.Counted.{counts, has, asks, free-at, free-room}
+use Rattle.rows.proofs.CountedLoop.{counts, has, plain-call, free-at, free-room}
 use Rattle.rows.proofs.Rows as P
 use Rattle.rows.proofs.Rows.Laws as P′
 use Rattle.rows.proofs.rows_put as rows-put
@@ -163,7 +163,7 @@ module _ {M : Type 1} (𝓤 : URA M) (H : Heap 𝓤) (A : Atoms 𝓤) (W : Given
           qed W (At i) ∵ exec ! (𝓣 .C) (𝓣 .Λ) En turn (anyQ (afterTurn 𝓤 H X Left)) $
           assigns ! (bin ! (load ! (from ! (stop !)) (look ! 14 refl)) (load ! (from ! (stop !)) (look ! 16 refl)) tt) (from ! (stop !)) (init ! 10 refl (tt, tt)) $
           rewrite ! 10 (λ (t : Bool). ‵ (fat fullShare tyBool l₆ 0 (vbool t))) (lt-ltb i end left) refl $ stays ! (load ! (from ! (stop !)) (look ! 10 refl)) $
-          asks ! fm JobAt known ((tt, tt, tt, (rows, (i, tt)), (machine rows ∷ [], (vint w64 i ∷ [], tt))), tt)
+          plain-call ! fm JobAt known ((tt, tt, tt, (rows, (i, tt)), (machine rows ∷ [], (vint w64 i ∷ [], tt))), tt)
           (has 𝓤 _ _ (owns-make 𝓤 H A (S ∷ usize ∷ []) (Is S, (Is usize, tt)) (LL.makes P.the-type P′.the-plain 𝓤 H A, (uint-makes 𝓤 H A W w64, tt)) (rows, (i, tt)) (machine rows ∷ [], (vint w64 i ∷ [], tt)) (good, ((refl, (omega arith)), tt))) (factI 𝓤 (i < 41) (emp 𝓤) (omega arith)))
           R (λ r. r ≡ job-at rows i) (Lasts taken.ended tt (rows, (i, tt))) (λ ws. sem 𝓤 H A (lasts taken.ended tt (rows, (i, tt)) ws)) (λ v. id⊢ 𝓤 _)
           (and-then ! (load ! (from ! (stop !)) (look ! 19 refl)) (and-then ! (load ! (from ! (stop !)) (look ! 15 refl)) (no-more !))) (λ r v is e.
@@ -171,7 +171,7 @@ module _ {M : Type 1} (𝓤 : URA M) (H : Heap 𝓤) (A : Atoms 𝓤) (W : Given
           assigns ! (bin ! (load ! (from ! (stop !)) (look ! 14 refl)) (lit ! tt) (record { fits = by4 })) (from ! (stop !)) (init ! 6 refl (tt, record { fits = by4 })) $
           assigns ! (bin ! (load ! (from ! (fld ! refl (stop !))) (look-in ! 20 (sub ! 0 refl (whole !)))) (load ! (from ! (stop !)) (look ! 6 refl)) tt) (from ! (stop !)) (init ! 4 refl (tt, tt)) $
           rewrite ! 4 (λ (p : ℕ). ‵ (fat fullShare tyPtr l₉ 0 (vptr b p))) (sym (place-is 4 o i)) refl $
-          elem-out ! R (Is R) (shows 𝓤 H A R) (LL.vals T.the-type T′.the-laws) (LL.tells T.the-type T′.the-laws) fullShare (upTo i) i none b o inside (λ _.
+          elem-out ! R (Is R) (shows 𝓤 H A R) (LL.vals T.the-type T′.the-laws) (LL.tells T.the-type T′.the-laws) fullShare (upTo i) i no-job b o inside (λ _.
           -- [jobs[i]; what it owns; the others; the open borrow; obs; auth; _9; …; _8; …; _7; …]
           assigns ! (of-opd ! (load ! (from ! (stop !)) (look ! 10 refl))) (from ! (hop ! (look ! 6 refl) (stop !))) (store-raw ! 0 refl (LL.lawful T.the-type T′.the-laws 𝓤 H A W .typed r _ is .0)) $
           move ! (1 ∷ []) $ drop ! $ owned ! R (Is R) (LL.makes T.the-type T′.the-plain 𝓤 H A) r (v ∷ []) is $ move ! (1 ∷ 0 ∷ []) $ elem-put ! R fullShare (upTo i) i r (v ∷ []) b o inside $
@@ -212,7 +212,7 @@ module _ {M : Type 1} (𝓤 : URA M) (H : Heap 𝓤) (A : Atoms 𝓤) (W : Given
         alloc1 ! (λ l₀. alloc1 ! (λ l₁. alloc1 ! (λ l₂. alloc1 ! (λ l₃. alloc1 ! (λ l₄. alloc1 ! (λ l₅. alloc1 ! (λ l₆. alloc1 ! (λ l₇. alloc1 ! (λ l₈. alloc1 ! (λ l₉. alloc0 ! $ params1 ! $
         pass1 ! (init ! 16 refl (tt, (tt, (record { fits = room .0 }, tt)))) $ pass1 ! (init ! 14 refl (LL.lawful P.the-type P′.the-laws 𝓤 H A W .typed rows _ good .0)) $ pass0 ! $
         assigns ! (of-opd ! (load ! (from ! (fld ! refl (stop !))) (look-in ! 16 (sub ! 1 refl (whole !))))) (from ! (stop !)) (init ! 8 refl (tt, record { fits = room .0 })) $
-        asks ! fm Put known-put ((tt, tt, tt, (n, (c, tt)), (vint w64 n ∷ [], (vint w64 c ∷ [], tt))), tt)
+        plain-call ! fm Put known-put ((tt, tt, tt, (n, (c, tt)), (vint w64 n ∷ [], (vint w64 c ∷ [], tt))), tt)
         (has 𝓤 _ _ (owns-make 𝓤 H A (usize ∷ usize ∷ []) (Is usize, (Is usize, tt)) (uint-makes 𝓤 H A W w64, (uint-makes 𝓤 H A W w64, tt)) (n, (c, tt)) (vint w64 n ∷ [], (vint w64 c ∷ [], tt)) ((refl, room .0), ((refl, good .1 .1 .0 .1), tt))) (id⊢ 𝓤 (emp 𝓤)))
         usize (λ m. m ≡ put-count n c) (Lasts rows-put.ended tt (n, (c, tt))) (λ ws. sem 𝓤 H A (lasts rows-put.ended tt (n, (c, tt)) ws)) (λ v. id⊢ 𝓤 _)
         (and-then ! (load ! (from ! (stop !)) (look ! 9 refl)) (and-then ! (load ! (from ! (fld ! refl (stop !))) (look-in ! 15 (sub ! 0 refl (whole !)))) (no-more !))) (λ m v is e.

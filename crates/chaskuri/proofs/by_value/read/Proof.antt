@@ -3,7 +3,7 @@ use mathlib.Core.Path.{sym}
 use borrow.Author.Needs.{needs}
 use lib.Seq.{length-take-le}
 use Rattle.rows.specs.Rows.{zeros}
-use Rattle.rows.proofs.Put.{put-few}
+use Rattle.rows.proofs.PutOver.{put-few}
 use Rattle.chaskuri.proofs.ByValue.{read-columns}
 use Rattle.chaskuri.proofs.by_value.read.Statement.{statement}
 use Rattle.chaskuri.proofs.by_value.read.Tie as tie

@@ -5,7 +5,7 @@ use native.Mathlib.Omega.{arith}
 use borrow.Author.Needs.{needs}
 use lib.ListN.{length}
 use Rattle.day.proofs.Gap.{price-at-most-length}
-use Rattle.claim.proofs.Walk.{Paying, paying-first, paying-empty, paying-job, paying-end}
+use Rattle.claim.proofs.Paying.{Paying, paying-first, paying-empty, paying-job, paying-end}
 use Rattle.claim.proofs.slots.cost.Statement.{statement}
 use Rattle.claim.proofs.slots.cost.Tie as tie
 

@@ -26,7 +26,7 @@ returns c =
       later = search needs;
       within = λ h. omega arith;
       job = λ h. holds-job-true _ _ (c .if1 .taken);
-      none = c .before .before .before .loop .inv .1 .1;
+      empty-before = c .before .before .before .loop .inv .1 .1;
     }
 
 loop-again : tie.Need-loop-again Inv-loop μ-loop
@@ -45,7 +45,7 @@ returns-2 c =
       later = c .before .loop .inv .0;
       within = c .before .loop .inv .1 .0;
       job = λ h. absurd (omega arith);
-      none = c .before .loop .inv .1 .1;
+      empty-before = c .before .loop .inv .1 .1;
     }
 
 pub next-job-spec : {M : Type 1} → statement M

@@ -4,7 +4,7 @@ use mathlib.Core.Path.{_≡_}
 use native.Mathlib.Omega.{arith}
 use borrow.Author.Needs.{needs}
 use Rattle.day.specs.Windows.{at}
-use Rattle.day.specs.Check.{most-slots}
+use Rattle.checks.specs.Check.{most-slots}
 use Rattle.claim.specs.Rows.{RowsBySlot}
 use Rattle.claim.proofs.Rows.{rows-none, rows-next}
 use Rattle.claim.proofs.slots.rows_by_slot.Statement.{statement}

@@ -7,9 +7,6 @@ use Rattle.dayplan.proofs.read.advance.Tie as tie
 add-t5 : tie.Need-add-t5
 add-t5 c = record { fits = omega (arith, rw (c .before .came .given .1) at (c .before .before .before .pre)) }
 
-enum-told : tie.Need-enum-told
-enum-told c = search needs
-
 returns : tie.Need-returns
 returns c = rw (c .before .came .given .1)
 
@@ -21,4 +18,4 @@ returns-3 c = rw (c .enum-told2 .given .1)
 
 pub advance-spec : {M : Type 1} → statement M
 advance-spec =
-    tie.close (tie.spec (λ c. search needs) add-t5 enum-told (λ c. search needs) returns returns-2 returns-3)
+    tie.close (tie.spec (λ c. search needs) add-t5 (λ c. search needs) (λ c. search needs) returns returns-2 returns-3)

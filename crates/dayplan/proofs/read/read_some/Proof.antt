@@ -14,9 +14,6 @@ Inv-loop room₀ retries₀ room retries = (length room ≡ length room₀) × (
 abbrev μ-loop : tie.MeasureT-loop
 μ-loop room₀ retries₀ room retries = 1000 - retries
 
-enum-told : tie.Need-enum-told Inv-loop μ-loop
-enum-told c = search needs
-
 below : (c : tie.After-enum-told Inv-loop μ-loop) → c .before .before .before .before .before .before .before .before .loop .retries < 1000
 below c = again-below (rw (c .enum-told .given .1) at (c .before .before .judge .ensures))
 
@@ -46,7 +43,7 @@ read-some-spec =
     (λ c κs. search needs)
     (λ c κs. search needs)
     (λ c κs. search needs)
-    enum-told
+    (λ c. search needs)
     add-retries
     loop-less
     loop-again

@@ -5,9 +5,9 @@ use native.Mathlib.Omega.{arith}
 use lib.ListN.{length}
 use borrow.Rule.Slice.PartMut.{putMid, same-len-mid}
 use borrow.Author.Needs.{needs}
-use Rattle.dayplan.specs.Calls.{Within}
+use Rattle.dayplan.specs.steps.Room.{Within}
 use Rattle.dayplan.proofs.Calls.{rest-length, within-more}
-use Rattle.dayplan.proofs.Reading.{more-within, over-holds}
+use Rattle.dayplan.proofs.ReadStep.{more-within, over-fits}
 use Rattle.dayplan.proofs.read.read_whole.Statement.{statement}
 use Rattle.dayplan.proofs.read.read_whole.Tie as tie
 
@@ -57,7 +57,7 @@ returns : tie.Need-returns Inv-loop μ-loop
 returns c =
     let before = c .before .before .before .before in
     let place = before .before .before .before .before .before .loop in
-    over-holds (before .before .before .read-some .result) (c .before .input .given .0 .0) (place .at) _
+    over-fits (before .before .before .read-some .result) (c .before .input .given .0 .0) (place .at) _
     (sym (c .before .input .given .1) ∙ c .before .before .before .advance .ensures) (omega (arith, kept before))
 
 pub read-whole-spec : {M : Type 1} → statement M

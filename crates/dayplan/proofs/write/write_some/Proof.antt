@@ -12,9 +12,6 @@ Inv-loop target text retries₀ retries = retries ≤ 1000
 abbrev μ-loop : tie.MeasureT-loop
 μ-loop target text retries₀ retries = 1000 - retries
 
-enum-told : tie.Need-enum-told Inv-loop μ-loop
-enum-told c = search needs
-
 below : (c : tie.After-enum-told Inv-loop μ-loop) → c .before .before .before .before .before .loop .retries < 1000
 below c = again-below (rw (c .enum-told .given .1) at (c .before .before .judge .ensures))
 
@@ -43,7 +40,7 @@ write-some-spec =
     (λ c κs. search needs)
     (λ c κs. search needs)
     (λ c κs. search needs)
-    enum-told
+    (λ c. search needs)
     add-retries
     loop-less
     loop-again

@@ -4,9 +4,9 @@ use mathlib.Core.Path.{sym, _∙_}
 use native.Mathlib.Omega.{arith}
 use lib.ListN.{length}
 use borrow.Author.Needs.{needs}
-use Rattle.dayplan.specs.Calls.{Within}
+use Rattle.dayplan.specs.steps.Room.{Within}
 use Rattle.dayplan.proofs.Calls.{rest-length, within-more}
-use Rattle.dayplan.proofs.Writing.{written-within}
+use Rattle.dayplan.proofs.WriteStep.{written-within}
 use Rattle.dayplan.proofs.write.write_whole.Statement.{statement}
 use Rattle.dayplan.proofs.write.write_whole.Tie as tie
 

@@ -8,10 +8,10 @@ use borrow.Fn.Kinds as kinds
 use borrow.Fn.PlainCycle.{Measures, is, falls, and}
 use Rattle.day.specs.Windows.{at}
 use Rattle.engine.specs.Lent.{Lent, lent}
-use Rattle.engine.specs.ReadBack.{Readable}
-use Rattle.engine.specs.steps.Level.{one-job}
+use Rattle.engine.specs.StartsRead.{ReadBackAsks}
+use Rattle.engine.specs.steps.OneMore.{more-of, one-job}
 use Rattle.rule.proofs.Value.{split-below}
-use Rattle.engine.proofs.ReadBack.{readable-fewer, back-found, back-empty}
+use Rattle.engine.proofs.StartsRead.{asks-fewer, back-found, back-empty}
 use Rattle.engine.proofs.back.read_back.Reads as read-back
 use Rattle.engine.proofs.back.read_back.Kinds as read-back-kinds
 use Rattle.engine.proofs.back.+read_back.Lts-read_back as read-back-lts
@@ -59,8 +59,8 @@ module _ (t : ℕ) where
     released : (start .args .from ≤ at (now (start .args .rel)) (left - 1)) × (at (now (start .args .rel)) (left - 1) < start .args .to)
     released = c .before .up-to-inside .ensures .highest (left - 1) counted
 
-    readable : (k : ℕ) → k ≤ left → Readable given (now (start .args .table)) k
-    readable k h = readable-fewer (start .pre .1 .0) k (omega (arith, few))
+    readable : (k : ℕ) → k ≤ left → ReadBackAsks given (now (start .args .table)) k
+    readable k h = asks-fewer (start .pre .1 .0) k (omega (arith, few))
 
   -- the split is no later than the end of the span
   split-there : (c : read-back-lts.After-split-of (calls t) (read-back-at t) read-back.Post)
@@ -70,7 +70,7 @@ module _ (t : ℕ) where
       omega (
         arith,
         c .split-of .ensures,
-        split-below (one-job (given e) (now (start e .args .table)) (left e - 1)) 0 (start e .args .from) (start e .args .to),
+        split-below (one-job (more-of (given e) (left e - 1)) (now (start e .args .table))) 0 (start e .args .from) (start e .args .to),
         start e .pre .1 .1,
       )
 

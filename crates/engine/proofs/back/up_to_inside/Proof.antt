@@ -16,12 +16,6 @@ abbrev μ-loop : tie.MeasureT-loop
 loop-holds : tie.Need-loop-holds Inv-loop μ-loop
 loop-holds c = (omega arith, λ i h l. absurd (omega arith))
 
-sub-inside : tie.Need-sub-inside Inv-loop μ-loop
-sub-inside c = omega arith
-
-inside-requires : tie.Need-inside-requires Inv-loop μ-loop
-inside-requires c κs = omega arith
-
 returns : tie.Need-returns Inv-loop μ-loop
 returns c =
     let at-loop = c .before .before .before .loop in
@@ -30,12 +24,6 @@ returns c =
       higher = at-loop .inv .1;
       highest = λ i q. let z : at-loop .left - 1 ≡ i = omega arith in rw z at (c .before .inside .ensures .yes (c .if1 .taken));
     }
-
-sub-left : tie.Need-sub-left Inv-loop μ-loop
-sub-left c = omega arith
-
-loop-less : tie.Need-loop-less Inv-loop μ-loop
-loop-less c = omega arith
 
 loop-again : tie.Need-loop-again Inv-loop μ-loop
 loop-again c =
@@ -58,10 +46,10 @@ up-to-inside-spec =
     Inv-loop
     μ-loop
     loop-holds
-    sub-inside
-    inside-requires
+    (λ c. omega arith)
+    (λ c κs. omega arith)
     returns
-    sub-left
-    loop-less
+    (λ c. omega arith)
+    (λ c. omega arith)
     loop-again
     returns-2)

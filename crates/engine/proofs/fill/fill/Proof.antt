@@ -4,9 +4,9 @@ use mathlib.Core.Path.{_≡_, refl, ap, _∙_}
 use native.Mathlib.Omega.{arith}
 use lib.ListN.{length}
 use denote.Ref.{now}
-use Rattle.engine.specs.Lent.{lent}
+use Rattle.engine.specs.Lent.{Lent, lent}
 use Rattle.engine.specs.Filled.{Filled}
-use Rattle.engine.specs.steps.Level.{Fillable}
+use Rattle.engine.specs.steps.OneMore.{more-of, Fillable}
 use Rattle.engine.proofs.Level.{filled-none, fillable-next, filled-more}
 use Rattle.engine.proofs.fill.fill.Statement.{statement}
 use Rattle.engine.proofs.fill.fill.Tie as tie
@@ -20,19 +20,22 @@ abbrev μ-loop : tie.MeasureT-loop
 loop-holds : tie.Need-loop-holds Inv-loop μ-loop
 loop-holds c = (omega arith, refl, filled-none _ _ (c .before .before .before .before .before .before .pre .1 .1))
 
-able : (c : tie.In-loop Inv-loop μ-loop)
-    → Fillable (lent (c .before .before .before .before .before .before .before .before .args .shape) (now (c .before .before .before .before .before .before .before .before .args .begins)) (now (c .before .before .before .before .before .before .before .before .args .rel)) (now (c .before .before .before .before .before .before .before .before .args .dead))
-    (now (c .before .before .before .before .before .before .before .before .args .marks))) (c .before .loop .table) (c .before .loop .job)
-able c = fillable-next (c .before .before .before .before .before .before .before .before .pre .0) (c .before .before .before .before .before .before .before .before .pre .1 .0 .0) (c .before .loop .inv .2) (omega arith)
+module _ (c : tie.In-loop Inv-loop μ-loop) where
+  abbrev start : tie.Start Inv-loop μ-loop
+  start = c .before .before .before .before .before .before .before .before
+
+  abbrev given : Lent
+  given =
+      lent (start .args .shape) (now (start .args .begins)) (now (start .args .rel)) (now (start .args .dead)) (now (start .args .marks))
+
+  able : Fillable (more-of given (c .before .loop .job)) (c .before .loop .table)
+  able = fillable-next (start .pre .0) (start .pre .1 .0 .0) (c .before .loop .inv .2) (omega arith)
 
 fill-level-requires : tie.Need-fill-level-requires Inv-loop μ-loop
-fill-level-requires c κs = (able (c .before .before), rw (c .before .before .before .loop .inv .1) (c .before .before .before .before .before .before .before .before .before .before .pre .1 .0 .1))
-
-add-job : tie.Need-add-job Inv-loop μ-loop
-add-job c = omega arith
-
-loop-less : tie.Need-loop-less Inv-loop μ-loop
-loop-less c = omega arith
+fill-level-requires c κs =
+    let i = c .before .before in
+    let p = start i .pre in
+    (able i, (omega (arith, p .0 .releases), omega (arith, p .0 .deadlines), rw (i .before .loop .inv .1) (p .1 .0 .1)))
 
 loop-again : tie.Need-loop-again Inv-loop μ-loop
 loop-again c =
@@ -41,7 +44,7 @@ loop-again c =
     (omega arith, level .0 ∙ l .inv .1, filled-more _ (l .job) _ _ _ (l .inv .2) (able (c .before .before .before .before .before .before .before)) (level .1))
 
 same-length : tie.Need-same-length Inv-loop μ-loop
-same-length c = c .before .loop .inv .2 .long
+same-length c = c .before .loop .inv .2 .changed .long
 
 same-length-2 : tie.Need-same-length-2 Inv-loop μ-loop
 same-length-2 c = ap length (c .before .loop .inv .1)
@@ -59,8 +62,8 @@ fill-spec =
     μ-loop
     loop-holds
     fill-level-requires
-    add-job
-    loop-less
+    (λ c. omega arith)
+    (λ c. omega arith)
     loop-again
     same-length
     same-length-2

@@ -3,13 +3,13 @@ use Prim.Native.Nat.{_+_, _-_, _≤_}
 use mathlib.Core.Path.{_≡_}
 use native.Mathlib.Omega.{arith}
 use denote.Ref.{now}
-use Rattle.engine.specs.Marks.{Marked}
+use Rattle.engine.specs.Marks.{MarkedBy}
 use Rattle.engine.proofs.Marks.{marked-none, marked-more}
 use Rattle.engine.proofs.mark.mark_releases.Statement.{statement}
 use Rattle.engine.proofs.mark.mark_releases.Tie as tie
 
 abbrev Inv-loop : tie.InvT-loop
-Inv-loop rel count marks₀ left₀ marks left = (left ≤ count) × Marked rel left count marks₀ marks
+Inv-loop rel count marks₀ left₀ marks left = (left ≤ count) × MarkedBy rel left count marks₀ marks
 
 abbrev μ-loop : tie.MeasureT-loop
 μ-loop rel count marks₀ left₀ marks left = left
@@ -17,37 +17,19 @@ abbrev μ-loop : tie.MeasureT-loop
 loop-holds : tie.Need-loop-holds Inv-loop μ-loop
 loop-holds c = (omega arith, marked-none _ _ _ (c .before .before .pre .1 .1))
 
-sub-wide : tie.Need-sub-wide Inv-loop μ-loop
-sub-wide c = omega arith
-
-mul-wide : tie.Need-mul-wide Inv-loop μ-loop
-mul-wide c = omega arith
-
-shared-slice-read-wide : tie.Need-shared-slice-read-wide Inv-loop μ-loop
-shared-slice-read-wide c = omega arith
-
-wide-requires : tie.Need-wide-requires Inv-loop μ-loop
-wide-requires c κs = tt
-
 lower-mark-requires : tie.Need-lower-mark-requires Inv-loop μ-loop
 lower-mark-requires c κs =
-    let l = c .before .before .before .before .loop in
-    (omega (arith, l .inv .1 .long, c .before .before .before .before .before .before .before .pre .1 .0 (l .left - 1) (omega arith)), omega arith)
-
-sub-left : tie.Need-sub-left Inv-loop μ-loop
-sub-left c = omega arith
-
-loop-less : tie.Need-loop-less Inv-loop μ-loop
-loop-less c = omega arith
+    let l = c .before .before .before .loop in
+    (omega (arith, l .inv .1 .long, c .before .wide-at .ensures, c .before .before .before .before .before .before .pre .1 .0 (l .left - 1) (omega arith)), omega arith)
 
 loop-again : tie.Need-loop-again Inv-loop μ-loop
 loop-again c =
-    let a = c .before .before .before .before .before .before .before .before .before .before .args in
-    let l = c .before .before .before .before .before .before .before .loop in
+    let a = c .before .before .before .before .before .before .before .before .before .args in
+    let l = c .before .before .before .before .before .before .loop in
     let next : l .left - 1 + 1 ≡ l .left = omega arith in (
       omega arith,
       marked-more (now (a .rel)) (a .count) (now (a .marks)) (l .left - 1) (omega arith) (l .marks) _ (rw next (l .inv .1))
-          (rw (next, ← c .before .before .before .before .wide .ensures .0) (c .before .before .lower-mark .ensures)),
+          (rw (next, ← c .before .before .before .before .wide-at .ensures) (c .before .before .lower-mark .ensures)),
     )
 
 same-length : tie.Need-same-length Inv-loop μ-loop
@@ -65,13 +47,11 @@ mark-releases-spec =
     Inv-loop
     μ-loop
     loop-holds
-    sub-wide
-    mul-wide
-    shared-slice-read-wide
-    wide-requires
+    (λ c. omega arith)
+    (λ c κs. omega arith)
     lower-mark-requires
-    sub-left
-    loop-less
+    (λ c. omega arith)
+    (λ c. omega arith)
     loop-again
     same-length
     returns)

@@ -3,26 +3,19 @@ use Prim.Native.Nat.{_-_, _≤_}
 use mathlib.Core.Path.{_≡_, refl}
 use native.Mathlib.Omega.{arith}
 use lib.ListN.{length}
-use Rattle.engine.specs.Written.{Written, itself}
-use Rattle.planner.specs.steps.Jobs.{by-number}
-use Rattle.engine.proofs.Written.{written-none, written-more}
+use Rattle.day.proofs.Changed.{filled-none, filled-next}
+use Rattle.planner.specs.steps.Jobs.{InOrder}
 use Rattle.planner.proofs.number.by_number.Statement.{statement}
 use Rattle.planner.proofs.number.by_number.Tie as tie
 
 abbrev Inv-loop : tie.InvT-loop
-Inv-loop rows order to₀ number₀ to number = (number ≤ length order) × Written itself 0 number (by-number rows order) to₀ to
+Inv-loop rows order to₀ number₀ to number = (number ≤ length order) × InOrder rows order number to
 
 abbrev μ-loop : tie.MeasureT-loop
 μ-loop rows order to₀ number₀ to number = length order - number
 
 loop-holds : tie.Need-loop-holds Inv-loop μ-loop
-loop-holds c = (omega arith, written-none _ _ _ _)
-
-mul-row : tie.Need-mul-row Inv-loop μ-loop
-mul-row c = omega arith
-
-shared-slice-read-row : tie.Need-shared-slice-read-row Inv-loop μ-loop
-shared-slice-read-row c = omega arith
+loop-holds c = (omega arith, filled-none)
 
 mul-to : tie.Need-mul-to Inv-loop μ-loop
 mul-to c = omega (arith, c .before .before .before .pre .1 (c .before .before .loop .number) (omega arith))
@@ -37,24 +30,11 @@ add-to c = omega (arith, c .before .before .before .before .pre .1 (c .before .b
 mul-to-2 : tie.Need-mul-to-2 Inv-loop μ-loop
 mul-to-2 c = omega (arith, c .before .before .before .loop .inv .1 .long)
 
-slice-write-to : tie.Need-slice-write-to Inv-loop μ-loop
-slice-write-to c = omega (arith, c .before .before .before .loop .inv .1 .long)
-
-add-number : tie.Need-add-number Inv-loop μ-loop
-add-number c = omega arith
-
-loop-less : tie.Need-loop-less Inv-loop μ-loop
-loop-less c = omega arith
+array-write-to : tie.Need-array-write-to Inv-loop μ-loop
+array-write-to c = omega (arith, c .before .before .before .loop .inv .1 .long)
 
 loop-again : tie.Need-loop-again Inv-loop μ-loop
-loop-again c = (
-  omega arith,
-  written-more _ _ _ _ _ _ _ (λ x h q. omega arith) (omega arith) (omega arith) refl
-      (c .before .before .before .loop .inv .1),
-)
-
-same-length : tie.Need-same-length Inv-loop μ-loop
-same-length c = c .before .loop .inv .1 .long
+loop-again c = (omega arith, filled-next (c .before .before .before .loop .inv .1) (omega arith) refl)
 
 returns : tie.Need-returns Inv-loop μ-loop
 returns c =
@@ -68,15 +48,14 @@ by-number-spec =
     Inv-loop
     μ-loop
     loop-holds
-    mul-row
-    shared-slice-read-row
+    (λ c. omega arith)
+    (λ c. omega arith)
     mul-to
     shared-slice-read-to
     add-to
     mul-to-2
-    slice-write-to
-    add-number
-    loop-less
+    array-write-to
+    (λ c. omega arith)
+    (λ c. omega arith)
     loop-again
-    same-length
     returns)

@@ -4,30 +4,21 @@ use mathlib.Core.Path.{_≡_}
 use native.Mathlib.Omega.{arith}
 use lib.ListN.{length}
 use Rattle.day.specs.Windows.{at}
-use Rattle.engine.specs.Written.{Written}
-use Rattle.planner.specs.steps.Jobs.{slots-of}
+use Rattle.day.proofs.Changed.{changed-nowhere}
+use Rattle.planner.specs.steps.Finished.{Laid}
 use borrow.Author.Needs.{needs}
-use Rattle.engine.proofs.Written.{written-none, written-more}
+use Rattle.planner.proofs.Finished.{changed-next}
 use Rattle.planner.proofs.out.write_out.Statement.{statement}
 use Rattle.planner.proofs.out.write_out.Tie as tie
 
 abbrev Inv-loop : tie.InvT-loop
-Inv-loop starts₀ order numbered number₀ starts number = (number ≤ length order) × Written (at order) 0 number (slots-of numbered) starts₀ starts
+Inv-loop starts₀ order numbered number₀ starts number = (number ≤ length order) × Laid order number (at numbered) starts₀ starts
 
 abbrev μ-loop : tie.MeasureT-loop
 μ-loop starts₀ order numbered number₀ starts number = length order - number
 
 loop-holds : tie.Need-loop-holds Inv-loop μ-loop
-loop-holds c = (omega arith, written-none _ _ _ _)
-
-mul-row : tie.Need-mul-row Inv-loop μ-loop
-mul-row c = omega arith
-
-shared-slice-read-row : tie.Need-shared-slice-read-row Inv-loop μ-loop
-shared-slice-read-row c = omega arith
-
-mul-slot-of : tie.Need-mul-slot-of Inv-loop μ-loop
-mul-slot-of c = omega arith
+loop-holds c = (omega arith, changed-nowhere (λ k t. omega arith))
 
 shared-slice-read-slot-of : tie.Need-shared-slice-read-slot-of Inv-loop μ-loop
 shared-slice-read-slot-of c = omega (arith, c .before .before .before .before .before .before .before .pre .0)
@@ -42,19 +33,13 @@ mul-starts c = omega (arith, there c)
 slice-write-starts : tie.Need-slice-write-starts Inv-loop μ-loop
 slice-write-starts c = there c
 
-add-number : tie.Need-add-number Inv-loop μ-loop
-add-number c = omega arith
-
-loop-less : tie.Need-loop-less Inv-loop μ-loop
-loop-less c = omega arith
-
 loop-again : tie.Need-loop-again Inv-loop μ-loop
 loop-again c =
     let start = c .before .before .before .before .before .before .before .before in
     let l = c .before .before .before .before .loop in (
       omega arith,
-      written-more _ _ _ _ _ _ _ (λ x h. start .pre .1 .1 x (l .number) h (omega arith)) (omega arith)
-          (omega (arith, start .pre .1 .0 (l .number) (omega arith))) (c .slot-of .ensures) (l .inv .1),
+      changed-next (l .number) (c .slot-of .result) (λ k h. start .pre .1 .1 k (l .number) h (omega arith)) (start .pre .1 .0 (l .number) (omega arith))
+          (c .slot-of .ensures) (l .inv .1),
     )
 
 same-length : tie.Need-same-length Inv-loop μ-loop
@@ -72,15 +57,15 @@ write-out-spec =
     Inv-loop
     μ-loop
     loop-holds
-    mul-row
-    shared-slice-read-row
-    mul-slot-of
+    (λ c. omega arith)
+    (λ c. omega arith)
+    (λ c. omega arith)
     shared-slice-read-slot-of
     (λ c κs. search needs)
     mul-starts
     slice-write-starts
-    add-number
-    loop-less
+    (λ c. omega arith)
+    (λ c. omega arith)
     loop-again
     same-length
     returns)

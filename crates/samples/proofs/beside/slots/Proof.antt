@@ -5,10 +5,10 @@ use Rattle.samples.proofs.beside.slots.Statement.{statement}
 use Rattle.samples.proofs.beside.slots.Tie as tie
 
 abbrev Inv-loop : tie.InvT-loop
-Inv-loop day releases deadlines starts answer slot₀ slot = slot ≤ day .slots
+Inv-loop case starts answer claimed left₀ slot₀ left slot = slot ≤ 65535
 
 abbrev μ-loop : tie.MeasureT-loop
-μ-loop day releases deadlines starts answer slot₀ slot = day .slots - slot
+μ-loop case starts answer claimed left₀ slot₀ left slot = 65535 - slot
 
 pub slots-spec : {M : Type 1} → statement M
 slots-spec =
@@ -16,12 +16,19 @@ slots-spec =
     (tie.spec
     Inv-loop
     μ-loop
+    (λ c κs. search needs)
+    (λ c κs. search needs)
+    (λ c. search needs)
+    (λ c κs. search needs)
+    (λ c κs. search needs)
+    (λ c κs. search needs)
     (λ c. search needs)
     (λ c κs. search needs)
     (λ c. search needs)
     (λ c. search needs)
     (λ c. search needs)
+    (λ c κs. search needs)
+    (λ c κs. search needs)
+    (λ c κs. search needs)
     (λ c. search needs)
-    (λ c κs. search needs)
-    (λ c κs. search needs)
     (λ c. search needs))

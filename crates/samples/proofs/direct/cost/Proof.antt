@@ -6,10 +6,10 @@ use Rattle.samples.proofs.direct.cost.Statement.{statement}
 use Rattle.samples.proofs.direct.cost.Tie as tie
 
 abbrev Inv-loop : tie.InvT-loop
-Inv-loop power starts cost₀ row₀ cost row = row ≤ length starts
+Inv-loop wake starts cost₀ row₀ cost row = row ≤ length starts
 
 abbrev μ-loop : tie.MeasureT-loop
-μ-loop power starts cost₀ row₀ cost row = length starts - row
+μ-loop wake starts cost₀ row₀ cost row = length starts - row
 
 pub cost-spec : {M : Type 1} → statement M
 cost-spec =
@@ -18,11 +18,7 @@ cost-spec =
     Inv-loop
     μ-loop
     (λ c. search needs)
-    (λ c. search needs)
-    (λ c. search needs)
     (λ c κs. search needs)
-    (λ c. search needs)
-    (λ c. search needs)
     (λ c κs. search needs)
     (λ c κs. search needs)
     (λ c κs. search needs)

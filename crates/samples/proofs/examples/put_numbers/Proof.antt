@@ -6,10 +6,10 @@ use Rattle.samples.proofs.examples.put_numbers.Statement.{statement}
 use Rattle.samples.proofs.examples.put_numbers.Tie as tie
 
 abbrev Inv-loop : tie.InvT-loop
-Inv-loop line numbers₀ count₀ place₀ numbers count place = place ≤ length line
+Inv-loop line list₀ place₀ list place = place ≤ length line
 
 abbrev μ-loop : tie.MeasureT-loop
-μ-loop line numbers₀ count₀ place₀ numbers count place = length line - place
+μ-loop line list₀ place₀ list place = length line - place
 
 pub put-numbers-spec : {M : Type 1} → statement M
 put-numbers-spec =
@@ -18,8 +18,6 @@ put-numbers-spec =
     Inv-loop
     μ-loop
     (λ c. search needs)
-    (λ c. search needs)
-    (λ c κs. search needs)
     (λ c κs. search needs)
     (λ c. search needs)
     (λ c κs. search needs)

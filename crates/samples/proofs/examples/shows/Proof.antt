@@ -6,10 +6,10 @@ use Rattle.samples.proofs.examples.shows.Statement.{statement}
 use Rattle.samples.proofs.examples.shows.Tie as tie
 
 abbrev Inv-loop : tie.InvT-loop
-Inv-loop bytes expected i₀ i = i ≤ length expected
+Inv-loop bytes expected i₀ i = i ≤ length bytes
 
 abbrev μ-loop : tie.MeasureT-loop
-μ-loop bytes expected i₀ i = length expected - i
+μ-loop bytes expected i₀ i = length bytes - i
 
 pub shows-spec : {M : Type 1} → statement M
 shows-spec =
@@ -19,8 +19,8 @@ shows-spec =
     μ-loop
     (λ c. search needs)
     (λ c. search needs)
-    (λ c. search needs)
-    (λ c. search needs)
+    (λ c κs. search needs)
+    (λ c κs. search needs)
     (λ c κs. search needs)
     (λ c. search needs)
     (λ c. search needs)

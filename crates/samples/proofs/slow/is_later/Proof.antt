@@ -6,10 +6,10 @@ use Rattle.samples.proofs.slow.is_later.Statement.{statement}
 use Rattle.samples.proofs.slow.is_later.Tie as tie
 
 abbrev Inv-loop : tie.InvT-loop
-Inv-loop deadlines starts others later₀ latest₀ row₀ later latest row = row ≤ length deadlines
+Inv-loop case starts others deadlines last₀ row₀ last row = row ≤ length deadlines
 
 abbrev μ-loop : tie.MeasureT-loop
-μ-loop deadlines starts others later₀ latest₀ row₀ later latest row = length deadlines - row
+μ-loop case starts others deadlines last₀ row₀ last row = length deadlines - row
 
 pub is-later-spec : {M : Type 1} → statement M
 is-later-spec =
@@ -17,13 +17,12 @@ is-later-spec =
     (tie.spec
     Inv-loop
     μ-loop
+    (λ c κs. search needs)
     (λ c. search needs)
     (λ c κs. search needs)
     (λ c κs. search needs)
-    (λ c. search needs)
-    (λ c. search needs)
-    (λ c. search needs)
-    (λ c. search needs)
+    (λ c κs. search needs)
+    (λ c κs. search needs)
     (λ c. search needs)
     (λ c. search needs)
     (λ c. search needs)

@@ -1,15 +1,14 @@
 -- `samples::slow::search` is safe and ends. Assumes nothing.
 use borrow.Author.Needs.{needs}
-use mathlib.Core.Path.{_≡_}
-use lib.ListN.{length}
+use Prim.Native.Nat.{_-_, _≤_}
 use Rattle.samples.proofs.slow.search.Statement.{statement}
 use Rattle.samples.proofs.slow.search.Tie as tie
 
 abbrev Inv-loop : tie.InvT-loop
-Inv-loop power releases deadlines starts₀ best₀ found₀ turns₀ starts best found turns = (length starts ≡ length starts₀) × (length best ≡ length best₀)
+Inv-loop case found₀ number₀ found number = number ≤ 100000
 
 abbrev μ-loop : tie.MeasureT-loop
-μ-loop power releases deadlines starts₀ best₀ found₀ turns₀ starts best found turns = turns
+μ-loop case found₀ number₀ found number = 100000 - number
 
 pub search-spec : {M : Type 1} → statement M
 search-spec =
@@ -17,15 +16,10 @@ search-spec =
     (tie.spec
     Inv-loop
     μ-loop
-    (λ c κs. search needs)
     (λ c. search needs)
     (λ c κs. search needs)
+    (λ c. search needs)
     (λ c κs. search needs)
-    (λ c. search needs)
-    (λ c. search needs)
-    (λ c. search needs)
-    (λ c. search needs)
-    (λ c. search needs)
     (λ c. search needs)
     (λ c. search needs)
     (λ c. search needs)

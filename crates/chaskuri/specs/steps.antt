@@ -1,0 +1,2 @@
+-- What functions over rows by value promise.
+pub mod ByValue

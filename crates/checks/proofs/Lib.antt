@@ -1,0 +1,7 @@
+-- The laws of the definitions in specs/.
+pub mod Refusal
+pub mod Check
+pub mod Decided
+pub mod Zero
+pub mod Planned
+pub mod Unique

@@ -1,0 +1,3 @@
+-- What functions promise each other, here and above.
+pub mod FirstOrEnd
+pub mod Never

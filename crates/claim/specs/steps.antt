@@ -1,0 +1,4 @@
+-- What functions of claimed plans promise each other.
+pub mod Starts
+pub mod Compared
+pub mod Pair

@@ -1,0 +1,43 @@
+-- `dayfile::reader::rows_code` meets its contract. Assumes nothing.
+use mathlib.Core.Path.{refl}
+use native.Mathlib.Omega.{arith}
+use borrow.Author.Needs.{needs}
+use Rattle.checks.specs.Refusal.{stops, goes-on}
+use Rattle.checks.proofs.Refusal.{past, then-clear}
+use Rattle.dayfile.proofs.reader.rows_code.Statement.{statement}
+use Rattle.dayfile.proofs.reader.rows_code.Tie as tie
+
+returns : tie.Need-returns
+returns c = stops (stops (record { fault = omega arith; says = refl }))
+
+returns-2 : tie.Need-returns-2
+returns-2 c = stops (past (λ f. omega arith) (stops (record { fault = λ m. omega arith; says = refl })))
+
+returns-3 : tie.Need-returns-3
+returns-3 c = stops (past (λ f. omega arith) (past (λ f. f (omega arith)) (stops (record { fault = omega arith; says = refl }))))
+
+returns-4 : tie.Need-returns-4
+returns-4 c =
+    stops
+    (past (λ f. omega arith) (past (λ f. f (omega arith)) (past (λ f. omega arith) (record { fault = omega arith; says = refl }))))
+
+returns-5 : tie.Need-returns-5
+returns-5 c =
+    goes-on
+    (then-clear (λ b r. omega (arith, r .fault))
+    (then-clear (λ b r. r .fault (omega arith))
+    (then-clear (λ b r. omega (arith, r .fault)) (λ b r. omega (arith, r .fault)))))
+    refl
+
+pub rows-code-spec : {M : Type 1} → statement M
+rows-code-spec =
+    tie.close
+    (tie.spec
+    (λ c κs. search needs)
+    returns
+    (λ c. search needs)
+    (λ c. search needs)
+    returns-2
+    returns-3
+    returns-4
+    returns-5)

@@ -1,0 +1,2 @@
+-- What functions of the day file promise each other.
+pub mod Trailer

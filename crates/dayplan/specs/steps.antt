@@ -1,0 +1,2 @@
+-- What functions of the program promise each other.
+pub mod Room

@@ -1,0 +1,2 @@
+-- What functions of the ledger promise each other.
+pub mod Run

@@ -1,0 +1,2 @@
+-- What functions of moving promise each other.
+pub mod Movable

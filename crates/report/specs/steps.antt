@@ -1,0 +1,2 @@
+-- What functions of the report promise each other.
+pub mod Rows

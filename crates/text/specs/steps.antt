@@ -1,0 +1,2 @@
+-- What functions of the text promise each other.
+pub mod Append
