@@ -12,7 +12,8 @@ use Rattle.moving.specs.Moving.{MovePromise}
 use Rattle.dayfile.specs.declared.reader.Reading.{Reading}
 use Rattle.dayfile.specs.Reader.{ReadPromise}
 use Rattle.rows.specs.declared.Rows.{Rows}
-use Rattle.rows.specs.Rows.{releases-in, deadlines-in, RowsFit, zeros}
+use Rattle.rows.specs.Rows.{zeros}
+use Rattle.rows.specs.steps.InRows.{releases-in, deadlines-in, RowsFit}
 use Rattle.chaskuri.specs.steps.ByValue.{MovedByValuePromise, places, empty-places}
 use Rattle.rows.proofs.PutOver.{put-few}
 

@@ -24,7 +24,8 @@ use Rattle.ledger.specs.Promise.{LedgerPromise, SlotPromise}
 use Rattle.planner.specs.Promise.{PlanCheck, PlanPromise}
 use Rattle.chaskuri.specs.declared.numbers.SlotNumbers.{SlotNumbers}
 use Rattle.chaskuri.specs.Slot.{SlotNumbered}
-use Rattle.rows.specs.Rows.{rows-of, releases-in, deadlines-in, windows-in}
+use Rattle.rows.specs.Rows.{rows-of}
+use Rattle.rows.specs.steps.InRows.{releases-in, deadlines-in, windows-in}
 use Rattle.rows.specs.Columns.{releases, deadlines, windows-of}
 use Rattle.rows.proofs.Copied.{list-promised, windows-promised}
 use Rattle.rows.proofs.TooMany.{Alike, alike-stops, alike-first, counts-alike, times-alike, lists-alike}

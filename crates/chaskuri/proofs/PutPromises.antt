@@ -11,7 +11,7 @@ use lib.Seq.{getD-take, length-take-le}
 use Rattle.checks.specs.declared.Answer.{Answer}
 use Rattle.day.specs.declared.Job.{Job}
 use Rattle.day.specs.Windows.{Windows, at, windows}
-use Rattle.checks.specs.Answer.{done, few-rows}
+use Rattle.checks.specs.Answer.{done}
 use Rattle.checks.specs.Check.{most-jobs, TimesCheck}
 use Rattle.checks.specs.Refusal.{_then_, stops, goes-on, Passed}
 use Rattle.day.proofs.Cases.{give, on-le}
@@ -26,7 +26,8 @@ use Rattle.checks.proofs.Refusal.{no-fault}
 use Rattle.rows.specs.declared.Rows.{Rows}
 use Rattle.chaskuri.specs.declared.by_value.MovedByValue.{MovedByValue}
 use Rattle.chaskuri.specs.declared.by_value.ReadByValue.{ReadByValue}
-use Rattle.rows.specs.Rows.{rows-of, releases-in, deadlines-in, windows-in, put-over, zeros}
+use Rattle.rows.specs.Rows.{rows-of, put-over, zeros}
+use Rattle.rows.specs.steps.InRows.{releases-in, deadlines-in, windows-in}
 use Rattle.rows.specs.Columns.{releases, deadlines}
 use Rattle.chaskuri.specs.steps.ByValue.{MovedByValuePromise, places, empty-places, ReadByValuePromise}
 use Rattle.rows.proofs.Copied.{few-count, few-releases, few-deadlines, many-rows, list-promised}

@@ -17,7 +17,7 @@ ghost use Rattle.claim.specs.Choice.{ChoicePromise, PartPromise};
 ghost use Rattle.dayfile.specs.Writer.{WritePromise};
 ghost use Rattle.ledger.specs.Promise.{LedgerPromise, SlotPromise};
 ghost use Rattle.planner.specs.Promise.{PlanPromise};
-ghost use Rattle.rows.specs.Rows.{releases-in, deadlines-in, windows-in, RowsFit};
+ghost use Rattle.rows.specs.steps.InRows.{releases-in, deadlines-in, windows-in, RowsFit};
 ghost use Rattle.chaskuri.specs.Slot.{SlotNumbered};
 ghost use Rattle.chaskuri.specs.steps.ByValue.{MovedByValuePromise, ReadByValuePromise};
 

@@ -62,6 +62,13 @@ module _ {Index : Type 0} {place : Index → ℕ} where
       ⊎-elim (λ f. rw (f .2) (one (f .0) (at new (place (f .0))) (at other (place (f .0))) (f .1) (p .inside (f .0) (f .1)) (q .inside (f .0) (f .1))))
       (λ n. p .outside j n ∙ sym (q .outside j n)) (known j))
 
+-- of the first n numbers each has a place, and that of the next is another one
+pub changed-next : {place : ℕ → ℕ} {Right : ℕ → ℕ → Type 0} {old new : List ℕ} (n v : ℕ) → ((k : ℕ) → k < n → place k ≡ place n → ⊥)
+    → place n < length old → Right n v → Changed (Below n) place Right old new → Changed (Below (n + 1)) place Right old (set new (place n) v)
+changed-next n v apart h right p =
+    changed-join {These = Below n} {Those = λ k. k ≡ n} (λ k l. on-eq k n inr (λ e. inl (omega arith))) (λ k l. omega arith) (λ k e. omega arith)
+    (λ k i l e. rw e (apart k l)) p (changed-one n v (omega (arith, p .long)) right)
+
 module _ {Right : ℕ → ℕ → Type 0} {old : List ℕ} where
   pub filled-none : FirstFilled 0 Right old old
   filled-none = changed-nowhere (λ i h. omega arith)
@@ -69,9 +76,7 @@ module _ {Right : ℕ → ℕ → Type 0} {old : List ℕ} where
   -- the next place
   pub filled-next : {n v : ℕ} {new : List ℕ} → FirstFilled n Right old new → n < length old → Right n v
       → FirstFilled (n + 1) Right old (set new n v)
-  filled-next {n} {v} {new} p h right =
-      changed-join {These = Below n} {Those = λ i. i ≡ n} (λ i l. on-eq i n inr (λ e. inl (omega arith))) (λ i l. omega arith) (λ i e. omega arith)
-      (λ i j l e same. omega arith) p (changed-one n v (omega (arith, p .long)) right)
+  filled-next {n} {v} p h right = changed-next n v (λ k l e. omega arith) h right p
 
   -- where one number is right for each place there is one such list
   pub filled-unique : {n : ℕ} {new other : List ℕ} → ((i y z : ℕ) → Right i y → Right i z → y ≡ z) → FirstFilled n Right old new

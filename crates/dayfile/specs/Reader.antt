@@ -15,9 +15,9 @@ use Rattle.dayfile.specs.Format.{distance-back, count-in, slots-in, wake
 abbrev pub no-reading : Answer → Reading
 no-reading answer = record { answer = answer; count = 0; day = record { slots = 0; power = record { wake = 0 } } }
 
--- ys is xs with the first n places filled from f, and nothing more
+-- new is old with the first n places filled from f
 abbrev pub FilledFrom : ℕ → (ℕ → ℕ) → List ℕ → List ℕ → Type 0
-FilledFrom n f xs ys = FirstFilled n (λ i y. y ≡ f i) xs ys
+FilledFrom n f = FirstFilled n (λ i y. y ≡ f i)
 
 -- codes 8, 9, 3, 10, 11, 12, for a reader with room for `room` rows
 abbrev pub FileCheck : List ℕ → ℕ → Answer → Type 0

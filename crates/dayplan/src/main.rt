@@ -1,10 +1,8 @@
 // Reads a day file on standard input and writes its plan to standard output. A read that fails is never planned, and output that is lost is
 // told: either is one line on standard error, by which the script that starts the program knows.
-mod call;
-mod read;
-mod write;
-
-use read::Input;
+use streams::read;
+use streams::read::Input;
+use streams::write;
 use text::Text;
 ghost use mathlib.Core.Path.{_≡_};
 ghost use Prim.Native.Nat.{_+_};

@@ -18,7 +18,7 @@ use Rattle.day.proofs.Cases.{give}
 use Rattle.checks.proofs.Refusal.{code-of, past, then-unique, avoids-clear, passed-clear, then-next, then-clear}
 use Rattle.checks.proofs.Check.{accepted-clear}
 use Rattle.day.proofs.Best.{best-unique, best-costs}
-use Rattle.day.proofs.Changed.{filled-rest}
+use Rattle.day.proofs.Changed.{changed-as}
 use Rattle.checks.proofs.Planned.{best-held}
 use Rattle.checks.proofs.Unique.{verdict-unique}
 use Rattle.planner.specs.Table.{need}
@@ -52,8 +52,7 @@ module _ (run : Run) (promised : Promised run) where
             answer ∙ ap (λ x. says done x 0) (best-costs (run .day) (list run) p (at (run .starts-after)) best held);
         best = held;
         only = λ q other. best-unique (run .day) (list run) (at (run .starts-after)) q held other;
-        long = here .filled .long;
-        rest = filled-rest (here .filled);
+        others = changed-as (λ i l. l) (λ i l. l) (λ i y l e. tt) (here .filled);
       })))
 
   given-none : NoPlan (list run) → run .answer ≡ says no-plan 0 0 → NoneGiven run

@@ -15,6 +15,7 @@ use Rattle.day.specs.Best.{Best}
 use Rattle.checks.specs.Answer.{says, done, short-table, no-plan}
 use Rattle.checks.specs.Check.{Accepted}
 use Rattle.day.proofs.Cases.{give}
+use Rattle.day.proofs.Changed.{filled-rest}
 use Rattle.day.proofs.Gap.{cost-agree}
 use Rattle.day.proofs.Bound.{cost-at-most-wakes}
 use Rattle.planner.specs.Table.{need}
@@ -198,9 +199,9 @@ module _ (e : Example) (run : Run) (plans : Plans e run) (promised : Promised ru
             (cost-agree (run .day) (list run .count) (at (run .starts-after)) (at (e .starts)) same ∙ known .first)
             ∙ ap (λ c. says c (e .first) 0) (sym (known .code));
         starts =
-            front-replaced (e .starts) (run .starts) (run .starts-after) (given .long) (omega (arith, known .long, room))
+            front-replaced (e .starts) (run .starts) (run .starts-after) (given .others .long) (omega (arith, known .long, room))
             (λ i l. same i (omega (arith, known .long)))
-            (λ i l. given .rest i (omega (arith, known .long)));
+            (λ i l. filled-rest (given .others) i (omega (arith, known .long)));
       })
 
   refused-shown : run .answer ≡ says (e .code) 0 0 → e .first ≡ 0 → length (e .starts) ≡ 0 → run .starts-after ≡ run .starts

@@ -9,14 +9,13 @@ use Rattle.day.specs.Windows.{Windows}
 use Rattle.checks.specs.Answer.{says, done}
 use Rattle.checks.specs.Refusal.{_then_, stops, goes-on, Passed, Refuses, First, RefusesRow, FirstPair, RefusesPair}
 use Rattle.checks.specs.Check.{most-slots, most-wake, most-jobs, SlotsCheck, JobsCheck, TimesCheck, ListCheck}
-use Rattle.checks.proofs.Refusal.{then-next, then-clear}
+use Rattle.checks.proofs.Refusal.{then-clear}
 use Rattle.demands.specs.ExamplesTable.{Shown}
 use Rattle.demands.specs.OneOutcome.{AtMostOne}
 use Rattle.demands.proofs.Test.{
   Test,
   less,
   at-most,
-  holds,
   both,
   either,
   through,

@@ -1,6 +1,6 @@
 -- Runs that meet what the theorems of demand 3 and of moving ask, so that none of them speaks of nothing: P9 with its two parts, P8 and its mirrored
 -- list, P8 on a longer day and moved. Assumes nothing.
-use Prim.Native.Nat.{ℕ, _+_, _≤_}
+use Prim.Native.Nat.{ℕ, _+_}
 use mathlib.Core.Path.{_≡_, refl}
 use mathlib.Core.List.{List, [], _∷_}
 use lib.ListN.{length, replicate}
@@ -12,7 +12,7 @@ use Rattle.day.specs.Plan.{taken}
 use Rattle.day.specs.Gap.{price, cost, total, gaps, gaps-since, ended}
 use Rattle.checks.specs.Zero.{zeroed}
 use Rattle.planner.specs.Table.{need}
-use Rattle.demands.specs.Run.{Run, list, Promised, Admitted, Served}
+use Rattle.demands.specs.Run.{Run, list, Served}
 use Rattle.demands.specs.ExamplesTable.{answer-of, day-with, releases-of, deadlines-of, P8}
 use Rattle.demands.specs.SideBySide.{Joins}
 use Rattle.demands.specs.Mirrored.{Mirrors}

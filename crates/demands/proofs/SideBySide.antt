@@ -120,9 +120,9 @@ module _ (g : ℕ) (first second whole : Run) (joins : Joins g first second whol
           starts =
               ap (λ n. take n (whole .starts-after)) (joins .rows .count)
               ∙ take-beside (list first .count) (list second .count) (first .starts-after) (second .starts-after) (whole .starts-after)
-              (omega (arith, b .long, one .admitted .room))
-              (omega (arith, done-best second two y .long, two .admitted .room))
-              (omega (arith, d .long, all .admitted .room, joins .rows .count))
+              (omega (arith, b .others .long, one .admitted .room))
+              (omega (arith, done-best second two y .others .long, two .admitted .room))
+              (omega (arith, d .others .long, all .admitted .room, joins .rows .count))
               (t .same);
           with-wake = λ h l. omega (arith, t .costs, joining-both (first .day .power) (list first) (list second) h l);
           no-wake =

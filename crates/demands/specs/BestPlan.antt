@@ -1,10 +1,10 @@
 -- Demand 2: what the checks take, and nothing else, is answered by the one best plan and its cost, or by 7, and by 7 exactly if there is no
 -- proper plan.
-use Prim.Native.Nat.{ℕ, _≤_, _<_}
+use Prim.Native.Nat.{ℕ, _<_}
 use mathlib.Core.Path.{_≡_}
 use mathlib.Core.Logic.{_⊎_}
-use lib.ListN.{length}
 use Rattle.day.specs.Windows.{at}
+use Rattle.day.specs.Changed.{OnlyFirst}
 use Rattle.day.specs.Plan.{Plan, NoPlan}
 use Rattle.day.specs.Gap.{cost}
 use Rattle.day.specs.Best.{Best}
@@ -16,8 +16,7 @@ pub record BestGiven (run : Run) : Type 0 where
   pub answer : run .answer ≡ says done (cost (run .day) (list run .count) (at (run .starts-after))) 0
   pub best : Best (run .day) (list run) (at (run .starts-after))
   pub only : (p : Plan) → Best (run .day) (list run) p → (i : ℕ) → i < list run .count → at (run .starts-after) i ≡ p i
-  pub long : length (run .starts-after) ≡ length (run .starts)
-  pub rest : (i : ℕ) → list run .count ≤ i → at (run .starts-after) i ≡ at (run .starts) i
+  pub others : OnlyFirst (list run .count) (run .starts) (run .starts-after)
 
 -- code 7, there is no proper plan, and the starts are as they were
 pub record NoneGiven (run : Run) : Type 0 where

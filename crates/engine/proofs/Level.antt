@@ -8,11 +8,10 @@ use native.Mathlib.Numerals.{add-one}
 use native.Mathlib.Omega.{arith}
 use lib.ListN.{length}
 use Rattle.day.specs.Windows.{at}
-use Rattle.day.specs.Changed.{Between, itself}
+use Rattle.day.specs.Changed.{itself}
 use Rattle.day.proofs.Cases.{on-eq, on-le}
 use Rattle.day.proofs.Changed.{changed-join}
 use Rattle.rule.specs.Span.{Problem}
-use Rattle.rule.specs.SpanPlan.{In}
 use Rattle.rule.proofs.Value.{value-zero, value-out}
 use Rattle.engine.specs.Places.{Layout, SpanIn, Fits, band, place, places-for}
 use Rattle.engine.specs.Lent.{Lent, layout-of, most-none, Prepared, Posed}

@@ -20,7 +20,8 @@ use Rattle.planner.specs.declared.Found.{Found}
 use Rattle.planner.specs.Table.{need}
 use Rattle.checks.specs.Planned.{Planned}
 use Rattle.checks.specs.steps.Never.{Never}
-use Rattle.planner.specs.steps.Jobs.{planner-none, InOrder, RowsInOrder, WithinLimits, ProblemOf}
+use Rattle.numbered.specs.InOrder.{InOrder}
+use Rattle.planner.specs.steps.Jobs.{planner-none, RowsInOrder, WithinLimits, ProblemOf}
 use Rattle.planner.specs.steps.Finished.{Finds, Told}
 use Rattle.planner.proofs.Finished.{finished-planned}
 

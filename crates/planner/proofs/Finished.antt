@@ -1,22 +1,20 @@
 -- From the table's value to the best plan: what the rule says of the whole day, for jobs put into number order. Assumes nothing.
 use Prim.Native.Nat.{ℕ, _+_, _-_, _≤_, _<_}
 use mathlib.Core.Path.{_≡_, sym, ap, _∙_}
-use mathlib.Core.Logic.{inl, inr}
 use mathlib.Core.List.{List}
 use native.Mathlib.Omega.{arith}
-use lib.ListN.{length, set}
+use lib.ListN.{length}
 use lib.Seq.{ext-getD}
 use Rattle.checks.specs.declared.Answer.{Answer}
 use Rattle.day.specs.declared.Day.{Day}
 use Rattle.day.specs.Windows.{Windows, at}
-use Rattle.day.specs.Changed.{Changed, Below}
 use Rattle.checks.specs.Answer.{says, done, no-plan}
 use Rattle.checks.specs.Refusal.{goes-on}
 use Rattle.day.specs.Far.{far-price}
 use Rattle.checks.specs.Check.{most-jobs}
 use Rattle.checks.specs.Zero.{zeroed}
-use Rattle.day.proofs.Cases.{give, on-le, on-eq}
-use Rattle.day.proofs.Changed.{changed-one, changed-join, filled-rest}
+use Rattle.day.proofs.Cases.{give, on-le}
+use Rattle.day.proofs.Changed.{filled-rest}
 use Rattle.checks.proofs.Zero.{zeroed-length, zeroed-below, zeroed-beyond}
 use Rattle.rule.specs.Span.{Problem, value}
 use Rattle.rule.specs.Whole.{problem, whole-back, ByNumber, Ready}
@@ -30,19 +28,13 @@ use Rattle.engine.proofs.Places.{place-below, places-more}
 use Rattle.planner.specs.declared.Found.{Found}
 use Rattle.planner.specs.Table.{need}
 use Rattle.planner.specs.steps.Jobs.{planner-none, LentSquare}
-use Rattle.planner.specs.steps.Finished.{Levels, Tabled, Finds, Laid, Told}
+use Rattle.numbered.specs.InOrder.{Laid}
+use Rattle.planner.specs.steps.Finished.{Levels, Tabled, Finds, Told}
 use Rattle.checks.specs.Planned.{costs, none-proper, Planned}
 use Rattle.checks.specs.steps.Never.{Never}
 use Rattle.planner.proofs.Table.{need-square}
 use Rattle.planner.proofs.Jobs.{far-price-bounded}
 use Rattle.checks.proofs.Planned.{never-clear, best-in}
-
--- the place of the next number is another one
-pub changed-next : {place : ℕ → ℕ} {Right : ℕ → ℕ → Type 0} {old new : List ℕ} (n v : ℕ) → ((k : ℕ) → k < n → place k ≡ place n → ⊥)
-    → place n < length old → Right n v → Changed (Below n) place Right old new → Changed (Below (n + 1)) place Right old (set new (place n) v)
-changed-next n v apart h right w =
-    changed-join {These = Below n} {Those = λ k. k ≡ n} (λ k l. on-eq k n inr (λ e. inl (omega arith))) (λ k l. omega arith) (λ k e. omega arith)
-    (λ k i l e. rw e (apart k l)) w (changed-one n v (omega (arith, w .long)) right)
 
 -- n jobs, lent to the engine
 module _ {day : Day} {G : Lent} {n : ℕ} (given : LentSquare day G n) (old : List ℕ) (long : need (day .slots) n ≤ length old) where

@@ -1,6 +1,4 @@
 // The plan: checks, the cost table, read-back.
-mod number;
-mod out;
 mod price;
 
 ghost use mathlib.Core.Path.{_≡_};
@@ -11,7 +9,6 @@ ghost use Rattle.day.specs.Windows.{at, windows};
 ghost use Rattle.checks.specs.Check.{most-wake, most-jobs};
 ghost use Rattle.checks.specs.Refusal.{_then_, Passed};
 ghost use Rattle.rule.specs.Span.{Problem};
-ghost use Rattle.rule.specs.Whole.{without-ends};
 ghost use Rattle.checks.specs.Zero.{zeroed};
 ghost use Rattle.engine.specs.Lent.{lent, Posed};
 ghost use Rattle.engine.specs.StartsRead.{ReadBackAsks};
@@ -34,21 +31,6 @@ const NONE: u16 = 16000;
 pub struct Found {
     pub value: u16,
     pub starts: [u16; 40],
-}
-
-// What the whole day costs by its value: the two wakes at the far ends come off, save with no jobs.
-fn without_ends(day: Day, count: usize, value: u16) -> u16
-    requires { ⌜ day .power .wake ≤ most-wake ⌝ }
-    ensures { λ r. ⌜ r ≡ without-ends day count value ⌝ }
-{
-    if count == 0 {
-        return 0;
-    }
-    let ends = day.power.wake + day.power.wake;
-    if value < ends {
-        return 0;
-    }
-    value - ends
 }
 
 // How many places `count` jobs need.
@@ -164,8 +146,8 @@ fn tell(day: Day, order: &[usize], found: Found, starts: &mut [u16]) -> Answer
         return Answer::of(code::NO_PLAN);
     }
     let numbered = found.starts;
-    out::write_out(starts, order, &numbered);
-    let cost = without_ends(day, order.len(), value);
+    numbered::write_out(starts, order, &numbered);
+    let cost = numbered::without_ends(day, order.len(), value);
     Answer {
         code: code::DONE,
         first: cost,
@@ -186,8 +168,8 @@ fn solve(
     requires { ⌜ (length (now releases) ≤ length (now starts)) × (need (day .slots) (length (now releases)) ≤ length (now table)) ⌝ }
     ensures { λ a. ⌜ Planned Never (need (day .slots) (length (now (releases .entry)))) day (windows (now (releases .entry)) (now (deadlines .entry))) (now (starts .entry)) (now (table .entry)) a (now (starts .exit)) (now (table .exit)) ⌝ }
 {
-    let rel = number::by_number(releases, order);
-    let dead = number::by_number(deadlines, order);
+    let rel = numbered::by_number(releases, order);
+    let dead = numbered::by_number(deadlines, order);
     let found = plan_numbered(day, &rel, &dead, order.len(), table);
     tell(day, order, found, starts)
 }

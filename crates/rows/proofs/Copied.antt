@@ -12,7 +12,8 @@ use Rattle.day.specs.declared.Job.{Job}
 use Rattle.day.specs.Windows.{Windows, at, windows}
 use Rattle.checks.specs.Check.{most-jobs}
 use Rattle.rows.specs.declared.Rows.{Rows}
-use Rattle.rows.specs.Rows.{no-job, copy-count, no-rows, with-job, rows-from, rows-of, releases-in, deadlines-in, windows-in, RowsFit}
+use Rattle.rows.specs.Rows.{no-job, copy-count, no-rows, with-job, rows-from, rows-of}
+use Rattle.rows.specs.steps.InRows.{releases-in, deadlines-in, windows-in, RowsFit}
 use Rattle.rows.specs.Columns.{releases, deadlines, windows-of}
 
 -- a number of each record of a list, which is 0 of the record that stands for none

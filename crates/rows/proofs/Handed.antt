@@ -28,7 +28,8 @@ use denote.Triple.Entry.{Args, Res, onEntry}
 use denote.Triple.Spec.{Meets, tripleOf}
 use denote.Triple.Table.{entered}
 use Rattle.rows.specs.declared.Rows.{Rows}
-use Rattle.rows.specs.Rows.{rows-of, RowsFit}
+use Rattle.rows.specs.Rows.{rows-of}
+use Rattle.rows.specs.steps.InRows.{RowsFit}
 use Rattle.rows.proofs.Copied.{rows-fit}
 use Rattle.rows.proofs.Setting.{Typed, gets, R, S, rowsTy, rules, calls, loops, frames}
 use Rattle.rows.proofs.Params.{Param, the-list, the-rows, slots, kinds, spelled, told, vals, Typeds, all-typed, list-in, on-rows, vals-with, others, list-out, rows-back}

@@ -1,11 +1,10 @@
 -- The rows of a list of job records, by value.
-use Prim.Native.Nat.{ℕ, zero, suc, _-_, _≤_, min}
+use Prim.Native.Nat.{ℕ, zero, suc, _-_, min}
 use mathlib.Core.Bool.{cond}
 use mathlib.Core.List.{List}
 use lib.Dec.{ltb}
-use lib.ListN.{length, getD, set, take, drop, replicate}
+use lib.ListN.{length, getD, set, drop, replicate}
 use Rattle.day.specs.declared.Job.{Job}
-use Rattle.day.specs.Windows.{Windows, windows}
 use Rattle.rows.specs.declared.Rows.{Rows}
 
 -- what stands for no job
@@ -54,18 +53,3 @@ put-first (suc k) js rows = set (put-first k js rows) k (job-at rows k)
 
 abbrev pub put-over : List Job → Rows → List Job
 put-over js rows = put-first (put-count (length js) (rows .count)) js rows
-
--- the rows' columns
-abbrev pub releases-in : Rows → List ℕ
-releases-in rows = take (rows .count) (rows .releases)
-
-abbrev pub deadlines-in : Rows → List ℕ
-deadlines-in rows = take (rows .count) (rows .deadlines)
-
-abbrev pub windows-in : Rows → Windows
-windows-in rows = windows (releases-in rows) (deadlines-in rows)
-
--- each row has its place in both columns
-pub record RowsFit (rows : Rows) : Type 0 where
-  pub releases : rows .count ≤ length (rows .releases)
-  pub deadlines : rows .count ≤ length (rows .deadlines)

@@ -43,7 +43,8 @@ use Rattle.checks.proofs.Answer as N
 use Rattle.checks.proofs.Answer.Laws as N′
 use Rattle.rows.specs.declared.Rows.{Rows}
 use Rattle.chaskuri.specs.declared.by_value.MovedByValue.{MovedByValue}
-use Rattle.rows.specs.Rows.{rows-of, put-over, RowsFit}
+use Rattle.rows.specs.Rows.{rows-of, put-over}
+use Rattle.rows.specs.steps.InRows.{RowsFit}
 use Rattle.chaskuri.specs.steps.ByValue.{MovedByValuePromise}
 use Rattle.rows.proofs.Copied.{rows-fit}
 use Rattle.chaskuri.proofs.PutPromises.{list-moved}

@@ -12,7 +12,8 @@ use Rattle.dayfile.specs.Reader.{ReadPromise}
 use Rattle.rows.specs.declared.Rows.{Rows}
 use Rattle.chaskuri.specs.declared.by_value.MovedByValue.{MovedByValue}
 use Rattle.chaskuri.specs.declared.by_value.ReadByValue.{ReadByValue}
-use Rattle.rows.specs.Rows.{releases-in, deadlines-in, windows-in, put-count, zeros}
+use Rattle.rows.specs.Rows.{put-count, zeros}
+use Rattle.rows.specs.steps.InRows.{releases-in, deadlines-in, windows-in}
 
 -- the moved rows; none under a refusal, so that nothing is put back
 pub record MovedByValuePromise (slots : ℕ) (by : ℤ) (rows : Rows) (m : MovedByValue) : Type 0 where

@@ -1,18 +1,19 @@
 -- What is found of jobs in number order: the table is filled, the plan is read back from it, and by the value of the whole day it is told.
-use Prim.Native.Nat.{ℕ, _-_, _≤_, _<_}
+use Prim.Native.Nat.{ℕ, _≤_, _<_}
 use mathlib.Core.Path.{_≡_}
 use mathlib.Core.List.{List}
 use lib.ListN.{length}
 use Rattle.checks.specs.declared.Answer.{Answer}
 use Rattle.day.specs.declared.Day.{Day}
 use Rattle.day.specs.Windows.{at}
-use Rattle.day.specs.Changed.{Changed, Below, OnlyFirst}
+use Rattle.day.specs.Changed.{OnlyFirst}
 use Rattle.checks.specs.Answer.{says, done, no-plan}
 use Rattle.checks.specs.Check.{most-jobs}
 use Rattle.rule.specs.Span.{Problem, value, read-back}
 use Rattle.rule.specs.Whole.{without-ends}
 use Rattle.engine.specs.Lent.{Lent, layout-of}
 use Rattle.engine.specs.Filled.{ValuesHeld, Small}
+use Rattle.numbered.specs.InOrder.{Laid}
 use Rattle.planner.specs.declared.Found.{Found}
 use Rattle.planner.specs.Table.{need}
 use Rattle.planner.specs.steps.Jobs.{planner-none, PosedAtPrices}
@@ -32,10 +33,6 @@ pub record Finds (P : Problem) (n end : ℕ) (found : Found) : Type 0 where
   pub value-is : found .value ≡ value P n 0 end
   pub long : length (found .starts) ≡ most-jobs
   pub each : value P n 0 end < P .none → (k : ℕ) → k < n → at (found .starts) k ≡ read-back P n 0 end k
-
--- each row has the start of its number, a slot in place of a point; starts of no row are as they were
-abbrev pub Laid : List ℕ → ℕ → (ℕ → ℕ) → List ℕ → List ℕ → Type 0
-Laid order n b = Changed (Below n) (at order) (λ k y. y ≡ b k - 1)
 
 -- the answer by the value found, and the starts
 pub record Told (day : Day) (order : List ℕ) (found : Found) (starts : List ℕ) (a : Answer) (starts-after : List ℕ) : Type 0 where

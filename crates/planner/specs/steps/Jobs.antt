@@ -3,10 +3,9 @@ use Prim.Native.Nat.{ℕ, _+_, _*_, _≤_, _<_}
 use mathlib.Core.Path.{_≡_}
 use mathlib.Core.Bool.{true}
 use mathlib.Core.List.{List}
-use lib.ListN.{length, replicate}
+use lib.ListN.{length}
 use Rattle.day.specs.declared.Day.{Day}
 use Rattle.day.specs.Windows.{at, windows}
-use Rattle.day.specs.Changed.{FirstFilled}
 use Rattle.day.specs.Number.{Numbered}
 use Rattle.day.specs.Far.{far-price}
 use Rattle.checks.specs.Check.{most-slots, most-wake, most-jobs, Accepted}
@@ -16,14 +15,6 @@ use Rattle.engine.specs.Lent.{Lent, Posed, Prepared}
 -- stands for "none": more than a plan can cost, and the sum of two still has 15 bits
 abbrev pub planner-none : ℕ
 planner-none = 16000
-
--- what the rows hold, by number, as points
-abbrev pub by-number : List ℕ → List ℕ → ℕ → ℕ
-by-number rows order k = at rows (at order k) + 1
-
--- a list of most-jobs numbers, the first n of them so
-abbrev pub InOrder : List ℕ → List ℕ → ℕ → List ℕ → Type 0
-InOrder rows order n = FirstFilled n (λ k y. y ≡ by-number rows order k) (replicate most-jobs 0)
 
 -- rows that the checks accept, each at the place of its number
 pub record RowsInOrder (day : Day) (releases deadlines order : List ℕ) : Type 0 where

@@ -1,8 +1,7 @@
 -- `planner::price::price_band` meets its contract: the places up to e are filled. Assumes nothing.
-use Prim.Native.Nat.{_+_, _-_, _≤_}
+use Prim.Native.Nat.{_-_, _≤_}
 use mathlib.Core.Path.{_≡_}
 use native.Mathlib.Omega.{arith}
-use lib.ListN.{length}
 use Rattle.day.specs.Far.{far-price}
 use Rattle.day.proofs.Changed.{changed-nowhere}
 use Rattle.engine.specs.steps.Bands.{HoldsAlong, offset}

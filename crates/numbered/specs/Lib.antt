@@ -1,0 +1,2 @@
+-- Jobs in number order, as points, and their starts back in row order.
+pub mod InOrder

@@ -1,0 +1,2 @@
+-- What functions over rows by value promise each other.
+pub mod InRows
