@@ -220,8 +220,3 @@ module _ {Check : Answer → Type 0} where
   then-group a (stops p) = stops (stops p)
   then-group a (goes-on n (stops p)) = stops (goes-on n p)
   then-group a (goes-on n (goes-on m p)) = goes-on (then-clear n m) p
-
--- where the answer is `done` there was no fault, and what comes next answered
-pub past-done : {code : ℕ} {Fault : Type 0} {Next : Answer → Type 0} {a : Answer} → (code ≡ done → ⊥) → a .code ≡ done
-    → (Refuses code Fault then Next) a → (Fault → ⊥) × Next a
-past-done h e p = (no-fault (passed-clear (refuses-is-check h) _ p e), then-done (refuses-is-check h) _ p e)

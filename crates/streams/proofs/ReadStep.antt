@@ -9,8 +9,8 @@ use Rattle.streams.specs.declared.call.Came.the-variants.{Bytes, Nothing
 use Rattle.streams.specs.declared.read.Input.{Input}
 use Rattle.streams.specs.declared.read.Input.the-variants.{Whole, Failed}
 use Rattle.streams.specs.declared.read.ReadStep.the-variants.{At, Over}
-use Rattle.streams.specs.ReadStep.{after-read}
-use Rattle.streams.specs.steps.Room.{FitsIn, Within}
+use Rattle.streams.specs.ReadStep.{FitsIn, after-read}
+use Rattle.streams.specs.steps.Room.{Within}
 
 -- reading goes on only after a byte came, and no further than there was room
 pub more-within : (came : Came) (at next room : ℕ) → At next ≡ after-read at came → Within room came → (at < next) × (next ≤ at + room)

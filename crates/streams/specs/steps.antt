@@ -1,2 +1,2 @@
--- What functions of the program promise each other.
+-- What functions of reading and writing promise each other.
 pub mod Room

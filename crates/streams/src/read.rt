@@ -5,8 +5,8 @@ use crate::call::judge;
 ghost use mathlib.Core.Path.{_≡_};
 ghost use Prim.Native.Nat.{_-_, _^_};
 ghost use lib.ListN.{length};
-ghost use Rattle.streams.specs.ReadStep.{after-read};
-ghost use Rattle.streams.specs.steps.Room.{FitsIn, Within};
+ghost use Rattle.streams.specs.ReadStep.{FitsIn, after-read};
+ghost use Rattle.streams.specs.steps.Room.{Within};
 
 // What was read: a whole input and its length, or nothing that may be used.
 pub enum Input {
