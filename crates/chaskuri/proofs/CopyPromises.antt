@@ -28,7 +28,7 @@ use Rattle.rows.specs.Rows.{rows-of}
 use Rattle.rows.specs.steps.InRows.{releases-in, deadlines-in, windows-in}
 use Rattle.rows.specs.Columns.{releases, deadlines, windows-of}
 use Rattle.rows.proofs.Copied.{list-promised, windows-promised}
-use Rattle.rows.proofs.TooMany.{Alike, alike-stops, alike-first, counts-alike, times-alike, lists-alike}
+use Rattle.checks.proofs.TooMany.{Alike, alike-stops, alike-first, counts-alike, times-alike, lists-alike}
 
 -- of more than 40 rows a claimed plan is refused by the list
 module _ (day : Day) (w v : Windows) (starts : List ℕ) (many : most-jobs < w .count) (other : most-jobs < v .count) where
