@@ -15,6 +15,7 @@ static chaskuri_job jobs[MOST_JOBS + 1], room[MOST_JOBS];
 static size_t count;
 static uint16_t starts[MOST_JOBS], table[CHASKURI_TABLE_PLACES(MOST_JOBS, MOST_SLOTS)];
 static uint8_t file[4 * (MOST_JOBS + 1) + 10];
+static chaskuri_field_day held, shorter; // the day opened with the list, and with all but its last job
 
 static void check(void) { chaskuri_check(day.slots, jobs, count); }
 static void plan(void) { chaskuri_plan(day, jobs, count, starts, MOST_JOBS, table, sizeof table / sizeof *table); }
@@ -25,12 +26,17 @@ static void slot(void) { chaskuri_slot(day, jobs, count, starts, MOST_JOBS, (uin
 static void move(void) { chaskuri_move(day.slots, jobs, count, 0); }
 static void write(void) { chaskuri_write(day, jobs, count, 0, file, sizeof file); }
 static void read(void) { chaskuri_read(file, 4 * count + 10, room, MOST_JOBS); }
+static void open(void) { held = chaskuri_open(day, jobs, count, starts, MOST_JOBS).held; }
+static void advance(void) { chaskuri_advance(held); }
+static void offer(void) { chaskuri_offer(held, starts, MOST_JOBS); }
+static void add(void) { chaskuri_add(shorter, jobs[count - 1], table, sizeof table / sizeof *table); }
 
 static const struct {
     const char *name;
     void (*call)(void);
 } calls[] = {{"check", check}, {"plan", plan}, {"price", price}, {"which", which}, {"ledger", ledger},
-             {"slot", slot},   {"move", move}, {"write", write}, {"read", read}};
+             {"slot", slot},   {"move", move}, {"write", write}, {"read", read},   {"open", open},
+             {"advance", advance}, {"add", add}, {"offer", offer}};
 enum { CALLS = sizeof calls / sizeof *calls };
 
 static unsigned char stack[1 << 16], *top;
@@ -97,6 +103,8 @@ int main(void) {
     run(mark_top, 0);
     for (unsigned list = 0; list < LISTS; list++) {
         make_list(list);
+        plan();
+        shorter = chaskuri_open(day, jobs, count - 1, starts, MOST_JOBS).held;
         for (int i = 0; i < CALLS; i++) {
             calls[i].call(); // once before it is counted: the dynamic linker works on the first call
             size_t taken = depth(calls[i].call);
@@ -105,6 +113,6 @@ int main(void) {
         }
     }
     for (int i = 0; i < CALLS; i++)
-        printf("chaskuri_%-7s%6zu bytes\n", calls[i].name, most[i]);
+        printf("chaskuri_%-8s%6zu bytes\n", calls[i].name, most[i]);
     return 0;
 }

@@ -12,6 +12,9 @@
  *   Number: jobs are numbered by deadline, equal deadlines by row.
  *   Tie rule: of the cheapest proper plans the one whose highest-numbered job starts latest; among those, whose next highest starts latest; and
  *     so on. So exactly one plan is right.
+ *   Day in the field: a list, the plan held, and the current slot, from 0 to slots. It goes in by value and comes back by value. A job whose start is
+ *     below the current slot is done, and keeps its slot. In the cut list a done job's window is its slot, and the others' releases are raised
+ *     to the current slot where they are lower.
  *   Day file: notes of any length; release and deadline of each row; then the number of rows, slots, wake, the distance back from the file's end
  *     to the first row, 4 * rows + 10, and the mark, bytes 80 and 76. Numbers have 16 bits, the low byte first.
  *
@@ -21,8 +24,8 @@
  *   only reads may overlap. What a call fills (starts, table, the room for read jobs, the file) needs no value before. Nothing else is
  *   asked: what a call cannot take it refuses by a code.
  *   No call allocates, keeps a pointer or any state, or touches memory that it was not lent: calls may run side by side in threads, as long as
- *   none writes a buffer that another was lent. Of stack chaskuri_plan takes at most 13,296 bytes, every other call less than 1,200: that is
- *   measured, by bench/stack.c with the kit rattle-kit-5b. What is said of each call below is proved, in crates/chaskuri. */
+ *   none writes a buffer that another was lent. Of stack chaskuri_add takes at most 14,592 bytes, chaskuri_plan 13,504, every other call less
+ *   than 2,200: that is measured, by bench/stack.c with the kit rattle-kit-5b. What is said of each call below is proved, in crates/chaskuri. */
 #ifndef CHASKURI_H
 #define CHASKURI_H
 
@@ -93,9 +96,27 @@ enum chaskuri_filling {
     CHASKURI_AFTER = 4   /* after the last job */
 };
 
+/* A day in the field. The first `count` places are the jobs' windows and their starts. A day comes from its caller at every call, and every call
+ * judges it: it may hold anything. */
+typedef struct {
+    chaskuri_day day;
+    uint16_t slot;
+    uint16_t count;
+    uint16_t releases[40];
+    uint16_t deadlines[40];
+    uint16_t starts[40];
+} chaskuri_field_day;
+
+/* What a call on such a day gives back: the answer, and the day held after it. On 0 the places beyond `count` are 0; under a refusal the day is as
+ * it was given. */
+typedef struct {
+    chaskuri_answer answer;
+    chaskuri_field_day held;
+} chaskuri_field_answer;
+
 /* 17 is the program's alone: its input is above 4,096 bytes. */
 enum chaskuri_code {
-    CHASKURI_DONE = 0,            /* planner and pricing: first is the cost */
+    CHASKURI_DONE = 0,            /* planner, pricing, open and add: first is the cost; offer: 1 if it is taken, else 0 */
     CHASKURI_BAD_SLOTS = 1,       /* no slots, or more than 96 */
     CHASKURI_BAD_WAKE = 2,        /* a wake that costs more than 1000 */
     CHASKURI_TOO_MANY_JOBS = 3,   /* more than 40 jobs */
@@ -113,7 +134,8 @@ enum chaskuri_code {
     CHASKURI_SAME_START = 15,     /* first: the lowest row of any two that start together; second: its lowest partner */
     CHASKURI_NEITHER_PROPER = 16, /* neither of two plans is proper */
     CHASKURI_LEAVES_DAY = 18,     /* first: the first row whose moved window would leave the day */
-    CHASKURI_NO_SUCH_SLOT = 19    /* the slot asked for is not of the day */
+    CHASKURI_NO_SUCH_SLOT = 19,   /* the slot asked for is not of the day */
+    CHASKURI_DAY_OVER = 20        /* the current slot is above the day's slots, or, to advance, equal to them */
 };
 
 /* How many places of the work table a plan of so many jobs on a day of so many slots needs: 401,841 are enough for any. */
@@ -159,6 +181,26 @@ chaskuri_reading chaskuri_read(const uint8_t *file, size_t file_len, chaskuri_jo
 /* Writes the list as a day file after the first `notes` bytes of `file`, which stay. The file is then the first notes + 4 * count + 10 bytes.
  * Refuses by 3, 13. On 0 those bytes after the notes are written; else nothing is. */
 chaskuri_answer chaskuri_write(chaskuri_day day, const chaskuri_job *jobs, size_t count, size_t notes, uint8_t *file, size_t file_len);
+
+/* Opens a day in the field at slot 0 with a list and a proper plan for it. First: what the plan costs.
+ * Refuses as pricing; the day is then all zeros. Writes nothing. */
+chaskuri_field_answer chaskuri_open(chaskuri_day day, const chaskuri_job *jobs, size_t count, const uint16_t *starts, size_t starts_len);
+
+/* Goes on by a slot: the job that stands in the current slot is done.
+ * Refuses as opening does, by the day that is given, then by 20 a slot above the day's slots or equal to them. Writes nothing. */
+chaskuri_field_answer chaskuri_advance(chaskuri_field_day field);
+
+/* Adds a job as the last row and plans the cut list with it, as chaskuri_plan does. First: what the new plan costs. The list holds the job as it
+ * is given.
+ * Refuses as opening does, then by 20 a slot above the day's slots; then by 3 with the new job, 4 that names it, 6 for one job more, and 7: no
+ * proper plan of the cut list, which is so too if no slot of the new job's window is left.
+ * On 0 and 7 the needed places of the table are set to zero. Nothing else is written. */
+chaskuri_field_answer chaskuri_add(chaskuri_field_day field, chaskuri_job job, uint16_t *table, size_t table_len);
+
+/* Offers a server's plan. It replaces the plan held exactly if it is proper for the cut list and strictly cheaper: first is then 1, else 0. Of the
+ * starts only the first `count` of the day matter.
+ * Refuses as opening does, then by 20 a slot above the day's slots; then by 5, 14 over all rows of the cut list, 15. Writes nothing. */
+chaskuri_field_answer chaskuri_offer(chaskuri_field_day field, const uint16_t *starts, size_t starts_len);
 
 #ifdef __cplusplus
 }

@@ -9,7 +9,7 @@ use denote.Ref.{RefT}
 use Rattle.checks.specs.declared.Answer.{Answer}
 use Rattle.day.specs.declared.Day.{Day}
 use Rattle.day.specs.declared.Job.{Job}
-use Rattle.day.specs.Windows.{Windows}
+use Rattle.day.specs.Windows.{Windows, windows}
 use Rattle.checks.specs.Answer.{done, no-plan}
 use Rattle.checks.specs.Refusal.{_then_, Passed}
 use Rattle.checks.specs.Check.{most-jobs, TimesCheck, ListCheck}
@@ -18,6 +18,8 @@ use Rattle.checks.proofs.Refusal.{refuses-is-check}
 use Rattle.claim.specs.Claim.{ClaimCheck, PricePromise}
 use Rattle.claim.specs.Choice.{ChoicePromise, PartFor, refused, of-own, of-server, PartPromise}
 use Rattle.dayfile.specs.Writer.{RoomCheck, WritePromise}
+use Rattle.fieldday.specs.declared.FieldAnswer.{FieldAnswer}
+use Rattle.fieldday.specs.Promise.{OpenPromise}
 use Rattle.ledger.specs.declared.LedgerAnswer.{LedgerAnswer}
 use Rattle.ledger.specs.declared.SlotAnswer.{SlotAnswer}
 use Rattle.ledger.specs.Promise.{LedgerPromise, SlotPromise}
@@ -28,7 +30,7 @@ use Rattle.rows.specs.Rows.{rows-of}
 use Rattle.rows.specs.steps.InRows.{releases-in, deadlines-in, windows-in}
 use Rattle.rows.specs.Columns.{releases, deadlines, windows-of}
 use Rattle.rows.proofs.Copied.{list-promised, windows-promised}
-use Rattle.rows.proofs.TooMany.{Alike, alike-stops, alike-first, counts-alike, times-alike, lists-alike}
+use Rattle.checks.proofs.TooMany.{Alike, alike-stops, alike-first, counts-alike, times-alike, lists-alike}
 
 -- of more than 40 rows a claimed plan is refused by the list
 module _ (day : Day) (w v : Windows) (starts : List ℕ) (many : most-jobs < w .count) (other : most-jobs < v .count) where
@@ -105,6 +107,17 @@ module _ (jobs : List Job) where
         unplanned = p .unplanned;
         cleared = ⊎-elim (λ e. absurd (not-done e)) (λ e. absurd (not-no-plan e));
         kept = p .kept;
+      })
+
+  pub list-opened : (day : Day) (starts : List ℕ) (r : FieldAnswer) → OpenPromise day (releases-in (rows-of 0 jobs)) (deadlines-in (rows-of 0 jobs)) starts r
+      → OpenPromise day (releases jobs) (deadlines jobs) starts r
+  list-opened day starts r =
+      list-promised jobs (λ xs ys. OpenPromise day xs ys starts r)
+      (λ xs ys xs′ ys′ h l p.
+      record {
+        answer = alike-first (claims-alike day (windows xs ys) (windows xs′ ys′) starts h l) .same (r .answer) (p .answer);
+        opened = λ e. absurd (claim-not-done day (windows xs ys) (windows xs′ ys′) starts h l (r .answer) (p .answer) e);
+        refused = p .refused;
       })
 
   pub list-written : (notes : ℕ) (day : Day) (file : List ℕ) (a : Answer) (file-after : List ℕ) → WritePromise notes day (releases-in (rows-of 0 jobs)) (deadlines-in (rows-of 0 jobs)) file a file-after

@@ -32,7 +32,7 @@ use Rattle.rows.specs.Columns.{releases, deadlines}
 use Rattle.chaskuri.specs.steps.ByValue.{MovedByValuePromise, places, empty-places, ReadByValuePromise}
 use Rattle.rows.proofs.Copied.{few-count, few-releases, few-deadlines, many-rows, list-promised}
 use Rattle.rows.proofs.PutOver.{put-few, put-within, put-none, put-filled}
-use Rattle.rows.proofs.TooMany.{Alike, alike-stops, alike-first, map-next, times-alike}
+use Rattle.checks.proofs.TooMany.{Alike, alike-stops, alike-first, map-next, times-alike}
 
 moves-alike : (slots : ℕ) (by : ℤ) (w v : Windows) → most-jobs < w .count → most-jobs < v .count → Alike (MoveCheck (TimesCheck slots w) slots by w) (MoveCheck (TimesCheck slots v) slots by v)
 moves-alike slots by w v many other = alike-first (times-alike w v many other slots)

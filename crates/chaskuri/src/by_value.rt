@@ -6,6 +6,7 @@ use checks::code;
 use day::Day;
 use day::wide;
 use dayfile::Reading;
+use fieldday::FieldAnswer;
 use ledger::LedgerAnswer;
 use ledger::SlotAnswer;
 use rows::Rows;
@@ -15,6 +16,7 @@ ghost use Rattle.checks.specs.Check.{TimesCheck};
 ghost use Rattle.claim.specs.Claim.{PricePromise};
 ghost use Rattle.claim.specs.Choice.{ChoicePromise, PartPromise};
 ghost use Rattle.dayfile.specs.Writer.{WritePromise};
+ghost use Rattle.fieldday.specs.Promise.{OpenPromise};
 ghost use Rattle.ledger.specs.Promise.{LedgerPromise, SlotPromise};
 ghost use Rattle.planner.specs.Promise.{PlanPromise};
 ghost use Rattle.rows.specs.steps.InRows.{releases-in, deadlines-in, windows-in, RowsFit};
@@ -108,6 +110,16 @@ pub(crate) fn slot_numbers(day: Day, rows: Rows, starts: &[u16], asked: u16) -> 
     ensures { λ numbers. ⌜ SlotNumbered day (windows-in rows) (now (starts .entry)) asked numbers ⌝ }
 {
     of_slot(slot(day, rows, starts, asked))
+}
+
+pub(crate) fn open(day: Day, rows: Rows, starts: &[u16]) -> FieldAnswer
+    requires { ⌜ RowsFit rows ⌝ }
+    ensures { λ r. ⌜ OpenPromise day (releases-in rows) (deadlines-in rows) (now (starts .entry)) r ⌝ }
+{
+    let count = rows.count;
+    let releases = rows.releases;
+    let deadlines = rows.deadlines;
+    fieldday::open(day, &releases[..count], &deadlines[..count], starts)
 }
 
 pub(crate) fn move_list(slots: u16, rows: Rows, by: i16) -> MovedByValue

@@ -7,6 +7,8 @@ use checks::Answer;
 use day::Day;
 use day::Job;
 use dayfile::Reading;
+use fieldday::FieldAnswer;
+use fieldday::FieldDay;
 use ledger::LedgerAnswer;
 use ledger::SlotAnswer;
 ghost use Rattle.checks.specs.Refusal.{_then_, Passed};
@@ -15,6 +17,7 @@ ghost use Rattle.claim.specs.Claim.{PricePromise};
 ghost use Rattle.claim.specs.Choice.{ChoicePromise, PartPromise};
 ghost use Rattle.dayfile.specs.Reader.{ReadPromise};
 ghost use Rattle.dayfile.specs.Writer.{WritePromise};
+ghost use Rattle.fieldday.specs.Promise.{OpenPromise, AdvancePromise, AddPromise, OfferPromise};
 ghost use Rattle.ledger.specs.Promise.{LedgerPromise, SlotPromise};
 ghost use Rattle.planner.specs.Promise.{PlanPromise};
 ghost use Rattle.moving.specs.Moving.{MovePromise};
@@ -116,4 +119,38 @@ pub extern "C" fn chaskuri_write(day: Day, jobs: &[Job], notes: usize, file: &mu
     ensures { λ a. ⌜ WritePromise notes day (releases (now (jobs .entry))) (deadlines (now (jobs .entry))) (now (file .entry)) a (now (file .exit)) ⌝ }
 {
     by_value::write(day, rows::copy_out(jobs, 0), notes, file)
+}
+
+// Opens a day in the field at slot 0 with the list and a proper plan for it. On 0 the first number is the plan's cost; a day of zeros where it refuses.
+#[no_mangle]
+pub extern "C" fn chaskuri_open(day: Day, jobs: &[Job], starts: &[u16]) -> FieldAnswer
+    ensures { λ r. ⌜ OpenPromise day (releases (now (jobs .entry))) (deadlines (now (jobs .entry))) (now (starts .entry)) r ⌝ }
+{
+    by_value::open(day, rows::copy_out(jobs, 0), starts)
+}
+
+// Goes on by a slot: the job in it is done. Where it refuses, the day comes back as it was given.
+#[no_mangle]
+pub extern "C" fn chaskuri_advance(field: FieldDay) -> FieldAnswer
+    ensures { λ r. ⌜ AdvancePromise field r ⌝ }
+{
+    fieldday::advance(field)
+}
+
+// Adds a job as the last row and plans anew what the hour leaves open. On 0 the first number is the new plan's cost. On 0 and 7 the table's needed
+// places are zero. Where it refuses, the day comes back as it was given.
+#[no_mangle]
+pub extern "C" fn chaskuri_add(field: FieldDay, job: Job, table: &mut [u16]) -> FieldAnswer
+    ensures { λ r. ⌜ AddPromise field (job .release) (job .deadline) (now (table .entry)) r (now (table .exit)) ⌝ }
+{
+    fieldday::add(field, job.release, job.deadline, table)
+}
+
+// Offers a server's plan. It replaces the plan held if it is proper for the cut list and strictly cheaper: the first number is then 1, else 0. Where it
+// refuses, the day comes back as it was given.
+#[no_mangle]
+pub extern "C" fn chaskuri_offer(field: FieldDay, server: &[u16]) -> FieldAnswer
+    ensures { λ r. ⌜ OfferPromise field (now (server .entry)) r ⌝ }
+{
+    fieldday::offer(field, server)
 }

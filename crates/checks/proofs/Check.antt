@@ -6,7 +6,7 @@ use native.Mathlib.Omega.{arith}
 use lib.ListN.{length, List·getD-eq-default}
 use Rattle.day.specs.declared.Power.{Power}
 use Rattle.day.specs.declared.Day.{Day}
-use Rattle.day.specs.Windows.{Windows, windows}
+use Rattle.day.specs.Windows.{Windows, SameRows, windows}
 use Rattle.day.proofs.Cases.{give, on-le}
 use Rattle.checks.specs.declared.Answer.{Answer}
 use Rattle.checks.specs.Answer.{bad-row}
@@ -113,6 +113,25 @@ clear-accepted {day} clear =
           on-le (day .power .wake) most-wake (λ h. h) (λ h. absurd (no-fault (clear-first (clear-next clear)) h));
       rows = clear-good-rows (clear-next (clear-next clear));
     })
+
+-- only the rows matter
+pub accepted-cong : {day : Day} {w v : Windows} → SameRows w v → Accepted day w → Accepted day v
+accepted-cong {day} {w} {v} same accepted =
+    record {
+      some-slots = accepted .some-slots;
+      slots = accepted .slots;
+      wake = accepted .wake;
+      rows =
+          record {
+            count = omega (arith, same .count, accepted .rows .count);
+            window = λ i l.
+                let k : i < w .count = omega (arith, same .count) in
+                omega (arith, same .release i k, same .deadline i k, accepted .rows .window i k);
+            in-day = λ i l.
+                let k : i < w .count = omega (arith, same .count) in
+                omega (arith, same .deadline i k, accepted .rows .in-day i k);
+          };
+    }
 
 -- the rows of an accepted list of numbers all have a deadline
 pub good-rows-deadlines : {limit slots : ℕ} (releases deadlines : List ℕ) → GoodRows limit slots (windows releases deadlines)

@@ -2,6 +2,7 @@
 pub mod Refusal
 pub mod Check
 pub mod Decided
+pub mod TooMany
 pub mod Zero
 pub mod Planned
 pub mod Unique

@@ -1,21 +1,22 @@
--- Laws of what any planner promises: what the first starts hold, and what a refusal and a plan without checks give. Assumes nothing.
+-- Laws of what any planner promises: what the first starts hold, what a refusal and a plan without checks give, and that only the rows
+-- matter. Assumes nothing.
 use Prim.Native.Nat.{ℕ, _≤_}
 use mathlib.Core.Path.{_≡_, refl, sym}
 use mathlib.Core.List.{List}
 use mathlib.Core.Logic.{⊎-elim}
 use lib.ListN.{length}
 use Rattle.day.specs.declared.Day.{Day}
-use Rattle.day.specs.Windows.{Windows, at}
+use Rattle.day.specs.Windows.{Windows, SameRows, at}
 use Rattle.day.specs.Best.{Best}
 use Rattle.day.proofs.Cases.{on-le}
-use Rattle.day.proofs.Plan.{same-rows-refl}
+use Rattle.day.proofs.Plan.{same-rows-refl, no-plan-cong}
 use Rattle.day.proofs.Best.{best-cong}
 use Rattle.checks.specs.declared.Answer.{Answer}
 use Rattle.checks.specs.Answer.{done, no-plan}
 use Rattle.checks.specs.Refusal.{_then_, goes-on}
-use Rattle.checks.specs.Planned.{Verdict, BestIn, Planned}
+use Rattle.checks.specs.Planned.{Verdict, costs, none-proper, BestIn, Planned}
 use Rattle.checks.specs.steps.Never.{Never}
-use Rattle.checks.proofs.Refusal.{then-next}
+use Rattle.checks.proofs.Refusal.{then-next, then-as}
 
 module _ {day : Day} {w : Windows} {starts : List ℕ} where
   -- a list whose first starts are the best plan
@@ -57,3 +58,28 @@ module _ (Check : Answer → Type 0) (need : ℕ) (day : Day) (w : Windows) (sta
   pub planned-checked : (a : Answer) (p t : List ℕ) → ((b : Answer) → Check b → ⊥) → Planned Never need day w starts table a p t
       → Planned Check need day w starts table a p t
   planned-checked a p t clear A = planned-by (goes-on clear (then-next never-clear a (A .answer))) A
+
+-- only the rows matter
+module _ {day : Day} {w v : Windows} (same : SameRows w v) where
+  verdict-cong : (a : Answer) → Verdict day w a → Verdict day v a
+  verdict-cong a (costs p best e) = costs p (best-cong day w v p p same (λ i l. refl) best) (rw (same .count) e)
+  verdict-cong a (none-proper none e) = none-proper (no-plan-cong w v same none) e
+
+  best-in-cong : {starts p : List ℕ} → BestIn day w starts p → BestIn day v starts p
+  best-in-cong P =
+      record {
+        plan = P .plan;
+        best = best-cong day w v (P .plan) (P .plan) same (λ i l. refl) (P .best);
+        filled = rw (same .count) (P .filled);
+      }
+
+  pub planned-cong : {Check : Answer → Type 0} {need : ℕ} {starts table : List ℕ} {a : Answer} {p t : List ℕ}
+      → Planned Check need day w starts table a p t → Planned Check need day v starts table a p t
+  planned-cong {a = a} A =
+      record {
+        answer = then-as (λ b c. c) (λ b c. c) verdict-cong a (A .answer);
+        planned = λ e. best-in-cong (A .planned e);
+        unplanned = A .unplanned;
+        cleared = A .cleared;
+        kept = A .kept;
+      }

@@ -220,3 +220,21 @@ module _ {Check : Answer → Type 0} where
   then-group a (stops p) = stops (stops p)
   then-group a (goes-on n (stops p)) = stops (goes-on n p)
   then-group a (goes-on n (goes-on m p)) = goes-on (then-clear n m) p
+
+  -- where the first of two checks taken together has nothing to refuse, the second is left
+  pub group-next : {Next Rest : Answer → Type 0} → ((b : Answer) → Check b → ⊥) → (a : Answer) → ((Check then Next) then Rest) a
+      → (Next then Rest) a
+  group-next clear a (stops p) = stops (then-next clear a p)
+  group-next clear a (goes-on n p) = goes-on (clear-next n) p
+
+  -- what follows has another code, so the check answered
+  pub then-stopped : {code : ℕ} {Next : Answer → Type 0} → ((b : Answer) → Next b → b .code ≡ code) → (a : Answer) → (Check then Next) a
+      → (a .code ≡ code → ⊥) → Check a
+  then-stopped answers a (stops p) h = p
+  then-stopped answers a (goes-on n p) h = absurd (h (answers a p))
+
+  -- a check and what comes next may be said in another way
+  pub then-as : {Other Next After : Answer → Type 0} → ((b : Answer) → Check b → Other b) → ((b : Answer) → Other b → Check b)
+      → ((b : Answer) → Next b → After b) → (a : Answer) → (Check then Next) a → (Other then After) a
+  then-as there back next a (stops p) = stops (there a p)
+  then-as there back next a (goes-on n p) = goes-on (λ b q. n b (back b q)) (next a p)

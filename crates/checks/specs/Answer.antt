@@ -64,3 +64,6 @@ leaves-day = 18
 
 abbrev pub no-such-slot : ℕ
 no-such-slot = 19
+
+abbrev pub day-over : ℕ
+day-over = 20

@@ -38,3 +38,5 @@ pub const LONG_INPUT: u16 = 17;
 pub const LEAVES_DAY: u16 = 18;
 
 pub const NO_SUCH_SLOT: u16 = 19;
+
+pub const DAY_OVER: u16 = 20;

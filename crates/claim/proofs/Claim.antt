@@ -7,13 +7,14 @@ use native.Mathlib.Omega.{arith}
 use lib.ListN.{length}
 use Rattle.checks.specs.declared.Answer.{Answer}
 use Rattle.day.specs.declared.Day.{Day}
-use Rattle.day.specs.Windows.{Windows, at}
+use Rattle.day.specs.Windows.{Windows, SameRows, at}
 use Rattle.day.specs.Plan.{MayStart}
 use Rattle.checks.specs.Answer.{done, few-starts, outside-window, same-start}
 use Rattle.checks.specs.Refusal.{_then_, goes-on, Passed}
 use Rattle.checks.specs.Check.{most-slots, GoodRows, Accepted, ListCheck}
 use Rattle.day.proofs.Cases.{on-le, on-eq}
-use Rattle.checks.proofs.Refusal.{IsCheck, refuses-is-check, refuses-row-is-check, refuses-pair-is-check, code-of, then-is-check, then-done, then-clear, then-next, passed-clear, clear-first, clear-next, no-fault, no-row-at-fault, no-pair-at-fault}
+use Rattle.day.proofs.Plan.{same-rows-turned}
+use Rattle.checks.proofs.Refusal.{IsCheck, refuses-is-check, refuses-row-is-check, refuses-pair-is-check, code-of, then-is-check, then-done, then-clear, then-next, then-as, passed-clear, clear-first, clear-next, no-fault, no-row-at-fault, no-pair-at-fault}
 use Rattle.checks.proofs.Check.{list-is-check, clear-accepted}
 use Rattle.checks.proofs.Decided.{Known, Decided, above-known, then-decided, refuses-decided, refuses-row-decided, refuses-pair-decided}
 use Rattle.claim.specs.Claim.{Fit, OutsideWindow, Together, LengthCheck, WindowsCheck, ApartCheck, StartsCheck, ClaimCheck, plan-cost}
@@ -116,6 +117,42 @@ priced-fit day w starts a p e = (passed-fit w starts a p e, ap (λ (x : Answer).
 pub priced-unfit : (day : Day) (w : Windows) (starts : List ℕ) (a : Answer) → PricedStarts day w starts a
     → (a .code ≡ done → ⊥) → Fit w starts → ⊥
 priced-unfit day w starts a p e fit = e (code-of (then-next (fit-clear w starts fit) a p))
+
+-- only the rows matter
+
+outside-cong : (w v : Windows) (starts : List ℕ) → SameRows w v → (i : ℕ) → i < w .count → OutsideWindow w starts i
+    → OutsideWindow v starts i
+outside-cong w v starts same i h out may =
+    out (omega (arith, same .release i h, may .0), omega (arith, same .deadline i h, may .1))
+
+length-check-cong : (w v : Windows) (starts : List ℕ) → SameRows w v → (b : Answer) → LengthCheck w starts b → LengthCheck v starts b
+length-check-cong w v starts same b p = record { fault = omega (arith, same .count, p .fault); says = p .says }
+
+windows-check-cong : (w v : Windows) (starts : List ℕ) → SameRows w v → (b : Answer) → WindowsCheck w starts b → WindowsCheck v starts b
+windows-check-cong w v starts same b p =
+    record {
+      row = p .row;
+      first =
+          record {
+            within = omega (arith, same .count, p .first .within);
+            fault = outside-cong w v starts same (p .row) (p .first .within) (p .first .fault);
+            lowest = λ j h out.
+                p .first .lowest j h
+                (outside-cong v w starts (same-rows-turned w v same) j (omega (arith, same .count, p .first .within)) out);
+          };
+      says = p .says;
+    }
+
+starts-check-cong : (w v : Windows) (starts : List ℕ) → SameRows w v → (b : Answer) → StartsCheck w starts b → StartsCheck v starts b
+starts-check-cong w v starts same =
+    let back : SameRows v w = same-rows-turned w v same in
+    then-as (length-check-cong w v starts same) (length-check-cong v w starts back)
+    (then-as (windows-check-cong w v starts same) (windows-check-cong v w starts back) (λ b p. rw (same .count) p))
+
+pub priced-cong : (day : Day) (w v : Windows) (starts : List ℕ) → SameRows w v → (a : Answer) → PricedStarts day w starts a
+    → PricedStarts day v starts a
+priced-cong day w v starts same =
+    then-as (starts-check-cong w v starts same) (starts-check-cong v w starts (same-rows-turned w v same)) (λ b e. rw (same .count) e)
 
 module _ {Check : Answer → Type 0} {w : Windows} {starts : List ℕ} {claimed : Claimed} (check : IsCheck Check)
     (p : Judged Check w starts claimed) (e : claimed .answer .code ≡ done) where

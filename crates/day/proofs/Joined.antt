@@ -18,10 +18,21 @@ beside-first n f g i h = rw (lt-ltb i n h)
 pub beside-following : (n : ℕ) (f g : ℕ → ℕ) (i : ℕ) → beside n f g (n + i) ≡ g i
 beside-following n f g i = rw (le-ltb (n + i) n (omega arith)) (ap g (omega arith))
 
+-- what stands in the place after the first n
+pub beside-last : (n : ℕ) (f g : ℕ → ℕ) → beside n f g n ≡ g 0
+beside-last n f g = rw (le-ltb n n (omega arith)) (ap g (omega arith))
+
 -- a row of the joined list is a row of the first, or one of the second after the n of the first
 pub on-row : (C : ℕ → Type 0) (n m i : ℕ) → i < n + m → ((j : ℕ) → j < n → C j) → ((k : ℕ) → k < m → C (n + k)) → C i
 on-row C n m i l first second =
     on-le n i (λ h. let e : n + (i - n) ≡ i = omega arith in rw e at (second (i - n) (omega arith))) (λ h. first i h)
+
+pub beside-most : (n m : ℕ) (f g h k : ℕ → ℕ) → ((i : ℕ) → i < n → f i ≤ g i) → ((i : ℕ) → i < m → h i ≤ k i) → (i : ℕ) → i < n + m
+    → beside n f h i ≤ beside n g k i
+beside-most n m f g h k first second i l =
+    on-row (λ i. beside n f h i ≤ beside n g k i) n m i l
+    (λ j b. omega (arith, beside-first n f h j b, beside-first n g k j b, first j b))
+    (λ j b. omega (arith, beside-following n f h j, beside-following n g k j, second j b))
 
 module _ (w v : Windows) where
   starts-first : (i t : ℕ) → i < w .count → MayStart (joined w v) i t ≡ MayStart w i t

@@ -1,5 +1,5 @@
 -- Laws of plans: which slots are taken; a plan that moves as its windows do stays proper, and only the rows matter. Assumes nothing.
-use Prim.Native.Nat.{ℕ, zero, suc, _+_, _-_, _<_}
+use Prim.Native.Nat.{ℕ, zero, suc, _+_, _-_, _≤_, _<_}
 use mathlib.Core.Path.{_≡_, refl, sym, _∙_}
 use mathlib.Core.Bool.{true, false}
 use mathlib.Core.Logic.{⊎-elim}
@@ -124,3 +124,18 @@ proper-cong w v p q a f = proper-offset 0 0 w v p q (same-rows-offset w v a) (λ
 
 pub no-plan-cong : (w v : Windows) → SameRows w v → NoPlan w → NoPlan v
 no-plan-cong w v a = no-plan-offset 0 0 v w (same-rows-offset v w (same-rows-turned w v a))
+
+-- every window of w lies inside that of v
+pub record Narrower (w v : Windows) : Type 0 where
+  pub count : v .count ≡ w .count
+  pub release : (i : ℕ) → i < w .count → v .release i ≤ w .release i
+  pub deadline : (i : ℕ) → i < w .count → w .deadline i ≤ v .deadline i
+
+pub proper-wider : {w v : Windows} {p : Plan} → Narrower w v → Proper w p → Proper v p
+proper-wider {w} n P =
+    record {
+      inside = λ i l.
+          give {A = i < w .count} (omega (arith, n .count))
+          (λ h. give (P .inside i h) (λ m. (omega (arith, n .release i h, m .0), omega (arith, n .deadline i h, m .1))));
+      apart = λ i j l m. P .apart i j (omega (arith, n .count)) (omega (arith, n .count));
+    }

@@ -9,6 +9,12 @@ use Rattle.demands.proofs.Mirrored.{mirrored-accepted, mirrored-answer}
 use Rattle.demands.proofs.Moving.{moved-accepted, moving-keeps}
 use Rattle.demands.proofs.MovingEnds.{leaves-at-ends, moves-at-ends}
 use Rattle.demands.proofs.Ledger.{ledger-balances, ledger-outer, row-shown}
+use Rattle.demands.proofs.FieldDay.{opened-passes, after-passes, done-keeps-slot, advance-no-dearer}
+use Rattle.demands.proofs.Added.{add-admitted, adds-best-or-none, adds-seven}
+use Rattle.demands.proofs.Offered.{offer-no-dearer, offer-taken}
+use Rattle.demands.proofs.AddedRun.{add-is-run}
+use Rattle.demands.proofs.History.{done-at-most-once, done-once-by-end}
+use Rattle.demands.proofs.RowsStay.{rows-stay}
 use Rattle.demands.proofs.Text.{prints-decimals}
 use Rattle.demands.proofs.Examples.{examples-hold, refused-plans-hold}
 use Rattle.demands.proofs.ExamplesOfClaims.{priced-examples-hold, chosen-examples-hold}
@@ -39,6 +45,19 @@ demands =
       ledger = ledger-balances;
       outer-slots = ledger-outer;
       row-shown = row-shown;
+      opened-passes = opened-passes;
+      after-passes = after-passes;
+      done-keeps-slot = done-keeps-slot;
+      advance-no-dearer = advance-no-dearer;
+      offer-no-dearer = offer-no-dearer;
+      offer-taken = offer-taken;
+      add-admitted = add-admitted;
+      adds-best = adds-best-or-none;
+      adds-seven = adds-seven;
+      add-is-run = add-is-run;
+      done-at-most-once = done-at-most-once;
+      done-once-by-end = done-once-by-end;
+      rows-stay = rows-stay;
       decimals = prints-decimals;
       examples = examples-hold;
       refused-plans = refused-plans-hold;

@@ -56,7 +56,7 @@ outside w starts i = is-not (may-start w i (at starts i))
 abbrev together : (starts : List ℕ) (i j : ℕ) → BothWays (Together starts i j)
 together starts i j = is-equal (at starts i) (at starts j)
 
-abbrev judge-starts : (w : Windows) (starts : List ℕ) → Judge (StartsCheck w starts)
+abbrev pub judge-starts : (w : Windows) (starts : List ℕ) → Judge (StartsCheck w starts)
 judge-starts w starts =
     judge-then (judge-whole _ (is-less (length starts) (w .count)))
     (judge-then (judge-row _ (w .count) (outside w starts)) (judge-pair _ (w .count) (together starts)))

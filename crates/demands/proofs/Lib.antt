@@ -1,5 +1,5 @@
 -- The proofs of the demands, most under the name of their statement in specs/. Test, ExamplesChecked and Computed are the examples' computed
--- tests, and Instances has runs that meet what the theorems ask.
+-- tests; Instances and InstancesOfFieldDay have runs and a history that meet what the theorems ask.
 pub mod BestPlan
 pub mod DayFile
 pub mod Gaps
@@ -9,6 +9,14 @@ pub mod Mirrored
 pub mod Moving
 pub mod MovingEnds
 pub mod Ledger
+pub mod Standing
+pub mod Added
+pub mod Offered
+pub mod FieldDay
+pub mod AddedRun
+pub mod Times
+pub mod History
+pub mod RowsStay
 pub mod Text
 pub mod Test
 pub mod ExamplesChecked
@@ -19,6 +27,7 @@ pub mod ExamplesOfLedger
 pub mod ExamplesOfMoving
 pub mod ExamplesOfFiles
 pub mod Instances
+pub mod InstancesOfFieldDay
 pub mod OneOutcome
 pub mod WrongPrograms
 pub mod Impostors

@@ -7,6 +7,8 @@ use Rattle.day.proofs.Unique.{numbering-unique}
 use Rattle.planner.proofs.Unique.{plan-unique}
 use Rattle.claim.proofs.Unique.{judged-unique, priced-unique, chosen-unique, handed-unique, next-unique}
 use Rattle.ledger.proofs.Unique.{ledgered-unique, shown-unique}
+use Rattle.cutlist.proofs.Unique.{cut-rows-unique}
+use Rattle.fieldday.proofs.Unique.{open-unique, advance-unique, add-unique, offer-unique}
 use Rattle.moving.proofs.Unique.{moved-list-unique}
 use Rattle.dayfile.proofs.Unique.{read-unique, written-unique}
 use Rattle.chaskuri.proofs.Unique.{moved-jobs-unique, read-jobs-unique, slot-numbers-unique}
@@ -39,6 +41,12 @@ one-outcome =
       next-job = next-unique;
       ledger = λ day w. ledgered-unique list-is-check day w;
       slot = λ day w. shown-unique list-is-check day w;
+      cut-rows = cut-rows-unique;
+      open-day = open-unique;
+      advance = advance-unique;
+      add = λ f release deadline table x y p q.
+          give (add-unique f release deadline table (x .0) (y .0) (x .1) (y .1) p q) (λ s. both-same x y (s .0) (s .1));
+      offer = offer-unique;
       move-list = λ slots by releases deadlines x y p q.
           give (moved-list-unique times-is-check p q) (λ s. all-same x y (s .0) (s .1) (s .2));
       read = λ file releases deadlines x y p q. give (read-unique p q) (λ s. all-same x y (s .0) (s .1) (s .2));

@@ -6,6 +6,19 @@ use Rattle.demands.specs.SideBySide.{AppendedJoined, JoinedAccepted, Joi
 use Rattle.demands.specs.Mirrored.{MirroredAccepted, MirroredAnswer}
 use Rattle.demands.specs.Moving.{MovedAccepted, MovingKeeps, LeavesAtEnds, MovesAtEnds}
 use Rattle.demands.specs.Ledger.{LedgerBalances, LedgerOuter, RowShown}
+use Rattle.demands.specs.FieldDay.{
+  OpenedPasses,
+  AfterPasses,
+  DoneKeepsSlot,
+  AdvanceNoDearer,
+  OfferNoDearer,
+  OfferTaken,
+  AddAdmitted,
+  AddsBestOrNone,
+  AddsSeven,
+  AddIsRun,
+}
+use Rattle.demands.specs.History.{DoneAtMostOnce, DoneOnceByEnd, RowsStay}
 use Rattle.demands.specs.Text.{PrintsDecimals}
 use Rattle.demands.specs.Examples.{ExamplesHold, RefusedPlansHold}
 use Rattle.demands.specs.ExamplesOfClaims.{PricedExamplesHold, ChosenExamplesHold}
@@ -38,6 +51,20 @@ pub record Demands : Type 0 where
   pub ledger : LedgerBalances
   pub outer-slots : LedgerOuter
   pub row-shown : RowShown
+  -- a day in the field: document 02, T-01
+  pub opened-passes : OpenedPasses
+  pub after-passes : AfterPasses
+  pub done-keeps-slot : DoneKeepsSlot
+  pub advance-no-dearer : AdvanceNoDearer
+  pub offer-no-dearer : OfferNoDearer
+  pub offer-taken : OfferTaken
+  pub add-admitted : AddAdmitted
+  pub adds-best : AddsBestOrNone
+  pub adds-seven : AddsSeven
+  pub add-is-run : AddIsRun
+  pub done-at-most-once : DoneAtMostOnce
+  pub done-once-by-end : DoneOnceByEnd
+  pub rows-stay : RowsStay
   -- the printed text
   pub decimals : PrintsDecimals
   -- examples with document 01's own numbers: P1 to P10, and a table for each entry point

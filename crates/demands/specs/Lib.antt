@@ -1,6 +1,7 @@
--- What document 01 demands. Read Run first: what goes into the planner and what comes out. Demands lists all statements; each says what holds of
--- every run that keeps a promise, and no program is mentioned. The proofs stand in proofs/, most
--- under the same names; those about a joined list are in Joined, about the ends of a shift in MovingEnds.
+-- What document 01 demands, and document 02's T-01. Read Run first: what goes into the planner and what comes out. Demands lists all statements;
+-- each says what holds of every run that keeps a promise, and no program is mentioned. FieldDay says what each call on a day in the field does,
+-- History what holds over all calls. The proofs stand in proofs/, most under the same names; those about a joined list are in Joined, about the
+-- ends of a shift in MovingEnds, about adding and offering in the field in Added, AddedRun and Offered, about a row's window there in RowsStay.
 pub mod Run
 pub mod BestPlan
 pub mod DayFile
@@ -9,6 +10,8 @@ pub mod SideBySide
 pub mod Mirrored
 pub mod Moving
 pub mod Ledger
+pub mod FieldDay
+pub mod History
 pub mod Text
 pub mod ExamplesTable
 pub mod Examples

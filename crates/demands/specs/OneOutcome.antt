@@ -18,6 +18,10 @@ use Rattle.claim.specs.Claim.{PricePromise}
 use Rattle.claim.specs.Rows.{NextJob, Judged}
 use Rattle.claim.specs.Choice.{ChoicePromise, PartPromise, SamePart}
 use Rattle.ledger.specs.Promise.{LedgerPromise, SlotPromise}
+use Rattle.cutlist.specs.CutRows.{HoldsCut}
+use Rattle.fieldday.specs.declared.FieldDay.{FieldDay}
+use Rattle.fieldday.specs.declared.FieldAnswer.{FieldAnswer}
+use Rattle.fieldday.specs.Promise.{OpenPromise, AdvancePromise, AddPromise, OfferPromise}
 use Rattle.moving.specs.Moving.{MovePromise}
 use Rattle.dayfile.specs.declared.reader.Reading.{Reading}
 use Rattle.dayfile.specs.Reader.{ReadPromise}
@@ -54,6 +58,14 @@ pub record OneOutcome : Type 0 where
   -- ledger
   pub ledger : (day : Day) (w : Windows) (starts : List ℕ) → AtMostOne (LedgerPromise day w starts)
   pub slot : (day : Day) (w : Windows) (starts : List ℕ) (asked : ℕ) → AtMostOne (SlotPromise day w starts asked)
+  -- cutlist
+  pub cut-rows : (slot n : ℕ) (releases deadlines starts : List ℕ) → AtMostOne (HoldsCut slot n releases deadlines starts)
+  -- fieldday
+  pub open-day : (day : Day) (releases deadlines starts : List ℕ) → AtMostOne (OpenPromise day releases deadlines starts)
+  pub advance : (f : FieldDay) → AtMostOne (AdvancePromise f)
+  pub add : (f : FieldDay) (release deadline : ℕ) (table : List ℕ)
+      → AtMostOne {A = FieldAnswer × List ℕ} (λ o. AddPromise f release deadline table (o .0) (o .1))
+  pub offer : (f : FieldDay) (server : List ℕ) → AtMostOne (OfferPromise f server)
   -- moving
   pub move-list : (slots : ℕ) (by : ℤ) (releases deadlines : List ℕ)
       → AtMostOne {A = Answer × List ℕ × List ℕ} (λ o. MovePromise slots by releases deadlines (o .0) (o .1) (o .2))

@@ -42,6 +42,13 @@ fn need_of(slots: u16, count: usize) -> usize
     (count + 1) * width * width
 }
 
+// How many places of the work table `count` jobs need on a day of so many slots.
+pub fn places_needed(slots: u16, count: u16) -> usize
+    ensures { λ r. ⌜ r ≡ need slots count ⌝ }
+{
+    need_of(slots, wide(count))
+}
+
 // Fills the table for `count` jobs that are in number order.
 fn fill_table(
     day: Day,

@@ -2,7 +2,6 @@
 pub mod Columns
 pub mod Copied
 pub mod PutOver
-pub mod TooMany
 pub mod CountedLoop
 pub mod Setting
 pub mod Lines
