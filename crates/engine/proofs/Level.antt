@@ -174,7 +174,6 @@ posed-fewer posed m h = record {
 pub prepared-fewer : {G : Lent} {n : ℕ} → Prepared G n → (m : ℕ) → m ≤ n → Prepared G m
 prepared-fewer p m h = record {
   fits = p .fits;
-  few-points = p .few-points;
   small-none = p .small-none;
   bands = p .bands;
   releases = omega (arith, p .releases);

@@ -5,5 +5,3 @@ pub mod Marks
 pub mod OneJob
 pub mod Sums
 pub mod Level
-pub mod Split
-pub mod StartsRead

@@ -1,17 +1,15 @@
 -- The laws of one job more over the level below: where it may split, that its values are small, and that they are the rule's. Assumes nothing.
-use Prim.Native.Nat.{ℕ, suc, _+_, _≤_, _<_}
+use Prim.Native.Nat.{ℕ, suc, _≤_, _<_}
 use mathlib.Core.Path.{_≡_, refl, sym, _∙_}
 use mathlib.Core.List.{List}
-use native.Mathlib.Numerals.{add-one}
 use native.Mathlib.Omega.{arith}
 use borrow.Author.Tests.{ltb-true, lt-ltb}
 use Rattle.day.specs.Windows.{at}
 use Rattle.day.proofs.Cases.{give}
-use Rattle.rule.specs.Span.{Problem, may-split, value, sides, split}
+use Rattle.rule.specs.Span.{Problem, may-split, value, sides}
 use Rattle.rule.proofs.Extreme.{least-none-bound}
-use Rattle.rule.specs.SpanPlan.{In}
-use Rattle.rule.proofs.Value.{on-in-span, clear-true, clear-intro, MaySplit, value-zero, value-in, value-out, sides-is}
-use Rattle.rule.proofs.Alike.{Alike, value-alike, split-alike}
+use Rattle.rule.proofs.Value.{on-in-span, clear-true, clear-intro, MaySplit, value-zero, value-in, value-out}
+use Rattle.rule.proofs.Alike.{Alike, value-alike}
 use Rattle.engine.specs.Places.{SpanIn, place}
 use Rattle.engine.specs.Lent.{Lent, layout-of, Posed}
 use Rattle.engine.specs.Filled.{ValuesHeld, Small}
@@ -33,11 +31,6 @@ module _ (J : OneMore) (table : List ℕ) where
   -- the level below has its prices
   pub price-read : (s e : ℕ) → at table (place (layout-for J) (J .job) s e) ≡ value (one-job J table) 0 s e
   price-read s e = sym (value-zero (one-job J table) s e)
-
-  -- so that the table has the sum of the two sides of a split
-  pub sides-read : (s t e v : ℕ)
-      → v ≡ at table (place (layout-for J) (J .job) s t) + at table (place (layout-for J) (J .job) (t + 1) e) → v ≡ sides (one-job J table) 0 s e t
-  sides-read s t e v q = omega (arith, sides-is (one-job J table) 0 s e t, price-read s t, rw add-one at (price-read (t + 1) e), rw add-one at q)
 
   -- its values are small
   pub value-with-small : Small (layout-for J) (J .shape .none) (J .job) table → (s e : ℕ) → SpanIn (layout-for J) s e → value-with J table s e ≤ J .shape .none
@@ -82,7 +75,7 @@ module _ (G : Lent) (table : List ℕ) (k : ℕ) {P : Problem} {n : ℕ} (posed 
       splits-marked (more-of G k) table t (omega (arith, m .low, posed .release k below)) (omega (arith, m .high, posed .deadline k below))
       (posed .unmarked k t below h (m .allowed) (clear-intro P k t (m .clear)))
 
-  alike-posed : Alike (G .shape .points) (one-job (more-of G k) table) 0 P k
+  pub alike-posed : Alike (G .shape .points) (one-job (more-of G k) table) 0 P k
   alike-posed = record {
     none = sym (posed .none);
     release = sym (posed .release k below);
@@ -93,6 +86,3 @@ module _ (G : Lent) (table : List ℕ) (k : ℕ) {P : Problem} {n : ℕ} (posed 
 
   pub value-with-posed : (s e : ℕ) → SpanIn (layout-of G) s e → value-with (more-of G k) table s e ≡ value P (suc k) s e
   value-with-posed s e v = value-alike alike-posed s e (v .1) (v .0)
-
-  pub split-posed : (s e : ℕ) → e < G .shape .points → In P s e k → split (one-job (more-of G k) table) 0 s e ≡ split P k s e
-  split-posed s e l inside = split-alike alike-posed s e l (rw (← posed .release k below) inside)

@@ -24,18 +24,13 @@ lent shape begins rel dead marks = record { shape = shape; begins = begins; rel 
 abbrev pub layout-of : Lent → Layout
 layout-of G = layout (G .shape) (G .begins)
 
--- a start is a number of 16 bits
-abbrev pub most-points : ℕ
-most-points = 65536
-
 -- the sum of two values has 15 bits
 abbrev pub most-none : ℕ
 most-none = 16383
 
--- what filling and reading back ask for n jobs
+-- what is asked for n jobs
 pub record Prepared (G : Lent) (n : ℕ) : Type 0 where
   pub fits : Fits (layout-of G)
-  pub few-points : G .shape .points ≤ most-points
   pub small-none : G .shape .none ≤ most-none
   pub bands : G .shape .points ≤ length (G .begins)
   pub releases : n ≤ length (G .rel)

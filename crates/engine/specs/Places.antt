@@ -39,3 +39,7 @@ layout shape begins = record { points = shape .points; level = shape .level; beg
 -- the square layout, in which every band has a place for each point: what lies before the band of s
 abbrev pub square-begins : ℕ → ℕ → ℕ
 square-begins points s = s * points
+
+-- the square of so many points is a number of 64 bits
+abbrev pub most-points : ℕ
+most-points = 65536

@@ -1,10 +1,9 @@
-// One engine for every table: it fills a table by the rule and reads the plan back, for any problem of the rule, any layout and any width.
+// One engine for every table: it fills a table by the rule, for any problem of the rule, any layout and any width.
 ghost use mathlib.Core.Path.{_≡_};
 ghost use Prim.Native.Nat.{_<_};
 ghost use lib.ListN.{length};
 ghost use Rattle.day.specs.Windows.{at};
 
-pub mod back;
 pub mod bands;
 pub mod fill;
 pub mod mark;
@@ -18,7 +17,7 @@ pub struct Shape {
 }
 
 // The number at a place of a list, as a place or a count.
-pub(crate) fn wide_at(numbers: &[u16], place: usize) -> usize
+pub fn wide_at(numbers: &[u16], place: usize) -> usize
     requires { ⌜ place < length (now numbers) ⌝ }
     ensures { λ r. ⌜ r ≡ at (now (numbers .entry)) place ⌝ }
 {

@@ -3,8 +3,7 @@ ghost use mathlib.Core.Path.{_≡_};
 ghost use Prim.Native.Nat.{_*_, _≤_};
 ghost use lib.ListN.{length};
 ghost use Rattle.day.specs.Changed.{FirstFilled};
-ghost use Rattle.engine.specs.Lent.{most-points};
-ghost use Rattle.engine.specs.Places.{square-begins};
+ghost use Rattle.engine.specs.Places.{square-begins, most-points};
 use crate::Shape;
 
 // The shape of a square table with `points` points.

@@ -23,7 +23,7 @@ use Rattle.engine.specs.Places.{SpanIn, place, places-for}
 use Rattle.engine.specs.steps.Bands.{span-place, BandsHold}
 use Rattle.engine.specs.Lent.{Lent, layout-of, Posed}
 use Rattle.engine.specs.Filled.{Small, Filled}
-use Rattle.engine.specs.StartsRead.{ReadBackAsks, PlanHeld, StartsRead}
+use Rattle.readback.specs.StartsRead.{ReadBackAsks, PlanHeld, StartsRead}
 use Rattle.engine.proofs.Places.{place-below, places-more}
 use Rattle.planner.specs.declared.Found.{Found}
 use Rattle.planner.specs.Table.{need}
@@ -75,7 +75,12 @@ module _ {day : Day} {G : Lent} {n : ℕ} (given : LentSquare day G n) (old : Li
   -- once the table is filled
   module _ (new : List ℕ) (t : Tabled day G n old new) where
     pub table-asks : ReadBackAsks G new n
-    table-asks = record { prepared = given .prepared; room = omega (arith, t .changed .long, room); small = t .small }
+    table-asks = record {
+      prepared = given .prepared;
+      few-points = omega (arith, given .points, given .jobs .slots);
+      room = omega (arith, t .changed .long, room);
+      small = t .small;
+    }
 
     -- what is set to zero doesn't matter
     pub table-cleared : (m : ℕ) (cleared : List ℕ) → m ≡ need (day .slots) n → cleared ≡ zeroed m new

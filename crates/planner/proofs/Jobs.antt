@@ -43,7 +43,6 @@ module _ {day : Day} {rel dead : List ℕ} {n : ℕ} (p : WithinLimits day rel d
     prepared = record {
       fits = square-fits (record { points = shape .points; level = shape .level; begins = at begins }) (rw (size .0) (size .1))
           (λ s h. rw (size .0) (bands .inside s (omega (arith, size .0))));
-      few-points = omega (arith, size .0, p .slots);
       small-none = omega (arith, size .2);
       bands = omega (arith, size .0, bands .long);
       releases = p .releases;

@@ -11,7 +11,7 @@ ghost use Rattle.checks.specs.Refusal.{_then_, Passed};
 ghost use Rattle.rule.specs.Span.{Problem};
 ghost use Rattle.checks.specs.Zero.{zeroed};
 ghost use Rattle.engine.specs.Lent.{lent, Posed};
-ghost use Rattle.engine.specs.StartsRead.{ReadBackAsks};
+ghost use Rattle.readback.specs.StartsRead.{ReadBackAsks};
 ghost use Rattle.planner.specs.Table.{need};
 ghost use Rattle.planner.specs.steps.Jobs.{RowsInOrder, WithinLimits, ProblemOf, LentSquare, PosedAtPrices};
 ghost use Rattle.planner.specs.steps.Finished.{Levels, Tabled, Finds, Told};
@@ -89,7 +89,7 @@ fn find(
     if value >= shape.none {
         return Found { value, starts };
     }
-    engine::back::read_back(
+    readback::read_back(
         count,
         0,
         end,

@@ -1,15 +1,21 @@
 -- The laws of the search for a split: of the places passed, the least sum and the latest that has it. Assumes nothing.
 use Prim.Native.Nat.{ℕ, _+_, _≤_, _<_, min}
 use mathlib.Core.Path.{_≡_, sym, _∙_}
+use mathlib.Core.List.{List}
 use mathlib.Core.Bool.{Bool, false, _&&_, and-false}
+use native.Mathlib.Numerals.{add-one}
 use native.Mathlib.Omega.{arith}
 use lib.Dec.{eqb}
 use borrow.Author.Tests.{eq-eqb, ne-eqb}
+use Rattle.day.specs.Windows.{at}
 use Rattle.rule.specs.Extreme.{least, latest}
 use Rattle.rule.specs.Span.{Problem, may-split, value, sides, best-split, split}
 use Rattle.rule.proofs.Extreme.{least-zero, least-pass, least-skip, least-none-pass, latest-zero, latest-pass, latest-skip, latest-none-pass, latest-cong}
 use Rattle.rule.specs.SpanPlan.{In}
-use Rattle.rule.proofs.Value.{MaySplit, may-split-intro, may-split-false, value-in, best-split-is, split-is}
+use Rattle.rule.proofs.Value.{MaySplit, may-split-intro, may-split-false, value-in, sides-is, best-split-is, split-is}
+use Rattle.engine.specs.Places.{place}
+use Rattle.engine.specs.steps.OneMore.{OneMore, layout-for, one-job}
+use Rattle.engine.proofs.OneJob.{price-read}
 
 -- the job may split the span at t, with the sum v
 abbrev ties : Problem → ℕ → ℕ → ℕ → ℕ → Bool
@@ -73,3 +79,9 @@ module _ (P : Problem) (s e : ℕ) where
       ∙ sym (latest-none-pass (ties P s e lowest) end e (omega arith) (λ t h u. no-tie lowest t (λ m. omega (arith, m .high))))
       ∙ latest-cong (ties P s e lowest) (best-split P 0 s e) e (λ t h. rw (value-found, best-split-is P 0 s e t))
       ∙ sym (split-is P 0 s e)
+
+-- a table has the sum of the two sides of a split
+pub sides-read : (J : OneMore) (table : List ℕ) (s t e v : ℕ)
+    → v ≡ at table (place (layout-for J) (J .job) s t) + at table (place (layout-for J) (J .job) (t + 1) e) → v ≡ sides (one-job J table) 0 s e t
+sides-read J table s t e v q =
+    omega (arith, sides-is (one-job J table) 0 s e t, price-read J table s t, rw add-one at (price-read J table (t + 1) e), rw add-one at q)

@@ -1,17 +1,17 @@
-// Reading the plan back from the filled table.
+// Reading the plan back from a table that the engine has filled, for any problem of the rule, any layout and any width.
 ghost use mathlib.Core.Path.{_≡_};
 ghost use Prim.Native.Nat.{_+_, _<_, _≤_};
 ghost use lib.ListN.{length};
 ghost use Rattle.day.specs.Windows.{at};
 ghost use Rattle.rule.specs.Span.{Problem, split};
 ghost use Rattle.engine.specs.Places.{place, layout};
 ghost use Rattle.engine.specs.Lent.{lent};
-ghost use Rattle.engine.specs.StartsRead.{ReadBackAsks, PlanHeld, StartsRead};
+ghost use Rattle.readback.specs.StartsRead.{ReadBackAsks, PlanHeld, StartsRead};
 ghost use Rattle.engine.specs.steps.OneMore.{one-more, more-of, one-job, Fillable};
-ghost use Rattle.engine.specs.steps.Highest.{Tells, UpToInside};
-use crate::Shape;
-use crate::bands;
-use crate::wide_at;
+ghost use Rattle.readback.specs.steps.Highest.{Tells, UpToInside};
+use engine::Shape;
+use engine::bands;
+use engine::wide_at;
 
 // The sum of the two sides of the span from `from` to `to`, if it is split at `point`.
 fn sum_of_sides(

@@ -1,4 +1,4 @@
--- `engine::back::read_back` meets its contract. It calls itself with fewer jobs. Assumes nothing.
+-- `readback::read_back` meets its contract. It calls itself with fewer jobs. Assumes nothing.
 use Prim.Native.Nat.{ℕ, suc, _+_, _-_, _≤_, _<_}
 use mathlib.Core.Path.{_≡_, refl, _∙_}
 use native.Mathlib.Omega.{arith}
@@ -7,18 +7,18 @@ use denote.Ref.{now}
 use borrow.Fn.Kinds as kinds
 use borrow.Fn.PlainCycle.{Measures, is, falls, and}
 use Rattle.day.specs.Windows.{at}
 use Rattle.engine.specs.Lent.{Lent, lent}
-use Rattle.engine.specs.StartsRead.{ReadBackAsks}
+use Rattle.readback.specs.StartsRead.{ReadBackAsks}
 use Rattle.engine.specs.steps.OneMore.{more-of, one-job}
 use Rattle.rule.proofs.Value.{split-below}
-use Rattle.engine.proofs.StartsRead.{asks-fewer, back-found, back-empty}
-use Rattle.engine.proofs.back.read_back.Reads as read-back
-use Rattle.engine.proofs.back.read_back.Kinds as read-back-kinds
-use Rattle.engine.proofs.back.+read_back.Lts-read_back as read-back-lts
-use Rattle.engine.proofs.back.split_of.Reads as split-of-reads
-use Rattle.engine.proofs.back.up_to_inside.Reads as up-to-inside-reads
-use Rattle.engine.proofs.back.+read_back.{statement}
-use Rattle.engine.proofs.back.+read_back.Tie.{close}
+use Rattle.readback.proofs.StartsRead.{asks-fewer, back-found, back-empty}
+use Rattle.readback.proofs.read_back.Reads as read-back
+use Rattle.readback.proofs.read_back.Kinds as read-back-kinds
+use Rattle.readback.proofs.+read_back.Lts-read_back as read-back-lts
+use Rattle.readback.proofs.split_of.Reads as split-of-reads
+use Rattle.readback.proofs.up_to_inside.Reads as up-to-inside-reads
+use Rattle.readback.proofs.+read_back.{statement}
+use Rattle.readback.proofs.+read_back.Tie.{close}
 
 abbrev μ-read-back : Measures 6 read-back-kinds.ps ℕ
 μ-read-back κs a = a .0
@@ -88,7 +88,7 @@ module _ (t : ℕ) where
       (readable c (left c - 1 + 1) (omega arith), (released c .0, released c .1, start c .pre .1 .1 .0))
 
   cast-starts : read-back-lts.Need-cast-starts (calls t) (read-back-at t) read-back.Post
-  cast-starts c = omega (arith, split-there c, start (c .before) .pre .1 .0 .prepared .few-points)
+  cast-starts c = omega (arith, split-there c, start (c .before) .pre .1 .0 .few-points)
 
   mul-starts : read-back-lts.Need-mul-starts (calls t) (read-back-at t) read-back.Post
   mul-starts c = omega (arith, start (c .before) .pre .1 .1, few (c .before))
@@ -107,7 +107,7 @@ module _ (t : ℕ) where
       )
 
   add-read-back : read-back-lts.Need-add-read-back (calls t) (read-back-at t) read-back.Post
-  add-read-back c = omega (arith, split-there (c .before .before .before .before), start (c .before .before .before .before .before) .pre .1 .0 .prepared .few-points)
+  add-read-back c = omega (arith, split-there (c .before .before .before .before), start (c .before .before .before .before .before) .pre .1 .0 .few-points)
 
   read-back-requires-2 : read-back-lts.Need-read-back-requires-2 (calls t) (read-back-at t) read-back.Post
   read-back-requires-2 c κs =

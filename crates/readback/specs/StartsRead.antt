@@ -5,13 +5,18 @@ use mathlib.Core.List.{List}
 use lib.ListN.{length}
 use Rattle.day.specs.Changed.{Changed, itself}
 use Rattle.rule.specs.Span.{Problem, value, read-back}
 use Rattle.engine.specs.Places.{SpanIn, places-for}
 use Rattle.engine.specs.Lent.{Lent, layout-of, Prepared, Posed}
 use Rattle.engine.specs.Filled.{ValuesHeld, Small}
 
--- what reading back asks: k jobs, and a table whose levels hold no number above `none`
+-- a start is a number of 16 bits
+abbrev pub most-starts : ℕ
+most-starts = 65536
+
+-- what reading back asks: k jobs, points that are starts, and a table whose levels hold no number above `none`
 pub record ReadBackAsks (G : Lent) (table : List ℕ) (k : ℕ) : Type 0 where
   pub prepared : Prepared G k
+  pub few-points : G .shape .points ≤ most-starts
   pub room : places-for (layout-of G) k ≤ length table
   pub small : (i : ℕ) → i ≤ k → Small (layout-of G) (G .shape .none) i table
 

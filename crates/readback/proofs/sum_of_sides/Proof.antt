@@ -1,8 +1,8 @@
--- `engine::back::sum_of_sides` meets its contract. Assumes nothing.
+-- `readback::sum_of_sides` meets its contract. Assumes nothing.
 use native.Mathlib.Omega.{arith}
 use borrow.Author.Needs.{needs}
-use Rattle.engine.proofs.back.sum_of_sides.Statement.{statement}
-use Rattle.engine.proofs.back.sum_of_sides.Tie as tie
+use Rattle.readback.proofs.sum_of_sides.Statement.{statement}
+use Rattle.readback.proofs.sum_of_sides.Tie as tie
 
 add-result : tie.Need-add-result
 add-result c = omega (arith, c .before .value-at .ensures, c .value-at2 .ensures, c .before .before .before .before .pre .1 .1)

@@ -1,12 +1,12 @@
--- `engine::back::split_of` meets its contract: the window is the job's. Assumes nothing.
+-- `readback::split_of` meets its contract: the window is the job's. Assumes nothing.
 use native.Mathlib.Omega.{arith}
 use denote.Ref.{now}
 use Rattle.engine.specs.Lent.{lent}
 use Rattle.engine.specs.steps.OneMore.{more-of}
 use Rattle.engine.proofs.Level.{fillable-read}
-use Rattle.engine.proofs.StartsRead.{fillable-asked}
-use Rattle.engine.proofs.back.split_of.Statement.{statement}
-use Rattle.engine.proofs.back.split_of.Tie as tie
+use Rattle.readback.proofs.StartsRead.{fillable-asked}
+use Rattle.readback.proofs.split_of.Statement.{statement}
+use Rattle.readback.proofs.split_of.Tie as tie
 
 wide-at-requires : tie.Need-wide-at-requires
 wide-at-requires c κs = omega (arith, c .before .before .before .before .before .pre .0 .prepared .releases)

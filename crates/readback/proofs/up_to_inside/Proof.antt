@@ -1,11 +1,11 @@
--- `engine::back::up_to_inside` meets its contract: the jobs from `left` on are not released in the span. Assumes nothing.
+-- `readback::up_to_inside` meets its contract: the jobs from `left` on are not released in the span. Assumes nothing.
 use Prim.Native.Nat.{ℕ, _-_, _≤_, _<_}
 use mathlib.Core.Path.{_≡_}
 use native.Mathlib.Omega.{arith}
 use Rattle.day.specs.Windows.{at}
 use Rattle.day.proofs.Cases.{on-eq}
-use Rattle.engine.proofs.back.up_to_inside.Statement.{statement}
-use Rattle.engine.proofs.back.up_to_inside.Tie as tie
+use Rattle.readback.proofs.up_to_inside.Statement.{statement}
+use Rattle.readback.proofs.up_to_inside.Tie as tie
 
 abbrev Inv-loop : tie.InvT-loop
 Inv-loop rel count from to left₀ left = (left ≤ count) × ((i : ℕ) → left ≤ i → i < count → (from ≤ at rel i) × (at rel i < to) → ⊥)

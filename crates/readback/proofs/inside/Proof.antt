@@ -1,11 +1,11 @@
--- `engine::back::inside` meets its contract. Assumes nothing.
+-- `readback::inside` meets its contract. Assumes nothing.
 use mathlib.Core.Path.{refl}
 use native.Mathlib.Omega.{arith}
 use borrow.Author.Tests.{ltb-true, ltb-false}
 use Rattle.day.proofs.Cases.{not-both}
 use borrow.Author.Needs.{needs}
-use Rattle.engine.proofs.back.inside.Statement.{statement}
-use Rattle.engine.proofs.back.inside.Tie as tie
+use Rattle.readback.proofs.inside.Statement.{statement}
+use Rattle.readback.proofs.inside.Tie as tie
 
 returns : tie.Need-returns
 returns c =

@@ -1,18 +1,18 @@
--- `engine::back::latest_best` meets its contract: what is found is the latest best split of the points passed. Assumes nothing.
+-- `readback::latest_best` meets its contract: what is found is the latest best split of the points passed. Assumes nothing.
 use Prim.Native.Nat.{ℕ, _+_, _-_, _≤_, _<_}
 use mathlib.Core.Path.{_≡_}
 use mathlib.Core.Logic.{⊎-elim}
 use native.Mathlib.Omega.{arith}
 use denote.Ref.{now}
 use Rattle.rule.specs.Span.{Problem}
 use Rattle.engine.specs.Places.{SpanIn}
 use Rattle.engine.specs.steps.OneMore.{OneMore, one-more, layout-for, one-job}
 use borrow.Author.Needs.{needs}
-use Rattle.engine.proofs.OneJob.{splits-marked, splits-unmarked, sides-read}
+use Rattle.engine.proofs.OneJob.{splits-marked, splits-unmarked}
 use Rattle.engine.proofs.Level.{span-there}
-use Rattle.engine.proofs.Split.{Searched, searched-none, searched-unsplit, searched-tie, searched-more, searched-split}
-use Rattle.engine.proofs.back.latest_best.Statement.{statement}
-use Rattle.engine.proofs.back.latest_best.Tie as tie
+use Rattle.readback.proofs.Split.{sides-read, Searched, searched-none, searched-unsplit, searched-tie, searched-more, searched-split}
+use Rattle.readback.proofs.latest_best.Statement.{statement}
+use Rattle.readback.proofs.latest_best.Tie as tie
 
 abbrev Inv-loop : tie.InvT-loop
 Inv-loop shape begins marks table job release deadline from to end least₀ found₀ point₀ least found point = (release ≤ point) × (point ≤ end) × Searched

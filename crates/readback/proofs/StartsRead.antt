@@ -12,17 +12,19 @@ use Rattle.day.proofs.Changed.{changed-nowhere, changed-one, changed-join, chan
 use Rattle.rule.specs.Span.{Problem, value, split, read-back}
 use Rattle.rule.specs.SpanPlan.{In}
 use Rattle.rule.proofs.Value.{value-out, sides-is, LatestBest, split-found, read-back-out, read-back-last, read-back-left, read-back-right}
+use Rattle.rule.proofs.Alike.{split-alike}
 use Rattle.engine.specs.Places.{SpanIn}
 use Rattle.engine.specs.Lent.{Lent, layout-of}
-use Rattle.engine.specs.StartsRead.{ReadBackAsks, PlanHeld, Among, StartsRead}
+use Rattle.readback.specs.StartsRead.{ReadBackAsks, PlanHeld, Among, StartsRead}
 use Rattle.engine.specs.steps.OneMore.{more-of, one-job, Fillable}
 use Rattle.engine.proofs.Places.{places-more}
-use Rattle.engine.proofs.OneJob.{split-posed}
+use Rattle.engine.proofs.OneJob.{alike-posed}
 use Rattle.engine.proofs.Level.{prepared-fewer, posed-fewer}
 
 pub asks-fewer : {G : Lent} {table : List ℕ} {n : ℕ} → ReadBackAsks G table n → (m : ℕ) → m ≤ n → ReadBackAsks G table m
 asks-fewer {G} {table} {n} r m h = record {
   prepared = prepared-fewer (r .prepared) m h;
+  few-points = r .few-points;
   room = omega (arith, r .room, places-more (layout-of G) m n h);
   small = λ i l. r .small i (omega arith);
 }
@@ -113,7 +115,8 @@ module _ {P : Problem} {G : Lent} {table : List ℕ} {n s e : ℕ} (holds : Plan
   some = omega (arith, holds .some, value-passed P n (suc k) s e (omega arith) passed)
 
   split-found-there : t ≡ split P k s e
-  split-found-there = found ∙ split-posed G table k (holds .posed) below (holds .levels k (omega arith)) s e (holds .span .1) inside
+  split-found-there =
+      found ∙ split-alike (alike-posed G table k (holds .posed) below (holds .levels k (omega arith))) s e (holds .span .1) highest
 
   best : LatestBest P k s e t
   best = rw split-found-there (split-found P k s e inside some)

@@ -1,0 +1,2 @@
+-- What functions of the read-back promise each other.
+pub mod Highest
