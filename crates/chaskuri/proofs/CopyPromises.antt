@@ -17,9 +17,9 @@ use Rattle.checks.proofs.Check.{list-is-check, list-avoids}
 use Rattle.checks.proofs.Refusal.{refuses-is-check}
 use Rattle.claim.specs.Claim.{ClaimCheck, PricePromise}
 use Rattle.claim.specs.Choice.{ChoicePromise, PartFor, refused, of-own, of-server, PartPromise}
-use Rattle.dayfile.specs.Writer.{RoomCheck, WritePromise}
 use Rattle.fieldday.specs.declared.FieldAnswer.{FieldAnswer}
 use Rattle.fieldday.specs.Promise.{OpenPromise}
+use Rattle.filewriter.specs.Writer.{RoomCheck, WritePromise}
 use Rattle.ledger.specs.declared.LedgerAnswer.{LedgerAnswer}
 use Rattle.ledger.specs.declared.SlotAnswer.{SlotAnswer}
 use Rattle.ledger.specs.Promise.{LedgerPromise, SlotPromise}

@@ -15,8 +15,8 @@ ghost use Rattle.checks.specs.Refusal.{_then_, Passed};
 ghost use Rattle.checks.specs.Check.{TimesCheck};
 ghost use Rattle.claim.specs.Claim.{PricePromise};
 ghost use Rattle.claim.specs.Choice.{ChoicePromise, PartPromise};
-ghost use Rattle.dayfile.specs.Writer.{WritePromise};
 ghost use Rattle.fieldday.specs.Promise.{OpenPromise};
+ghost use Rattle.filewriter.specs.Writer.{WritePromise};
 ghost use Rattle.ledger.specs.Promise.{LedgerPromise, SlotPromise};
 ghost use Rattle.planner.specs.Promise.{PlanPromise};
 ghost use Rattle.rows.specs.steps.InRows.{releases-in, deadlines-in, windows-in, RowsFit};
@@ -172,5 +172,5 @@ pub(crate) fn write(day: Day, rows: Rows, notes: usize, file: &mut [u8]) -> Answ
     let count = rows.count;
     let releases = rows.releases;
     let deadlines = rows.deadlines;
-    dayfile::write(notes, day, &releases[..count], &deadlines[..count], file)
+    filewriter::write(notes, day, &releases[..count], &deadlines[..count], file)
 }

@@ -1,4 +1,4 @@
--- What holds of a file that the reader accepts, and of a buffer that the writer accepts. Assumes nothing.
+-- What holds of a file that the reader accepts. Assumes nothing.
 use Prim.Native.Nat.{ℕ, _≤_}
 use mathlib.Core.Path.{_≡_}
 use mathlib.Core.List.{List}
@@ -7,12 +7,10 @@ use lib.ListN.{length}
 use Rattle.checks.specs.declared.Answer.{Answer}
 use Rattle.checks.specs.Answer.{done}
 use Rattle.checks.specs.Refusal.{_then_, Passed}
-use Rattle.checks.specs.Check.{most-jobs}
 use Rattle.day.proofs.Cases.{on-eq, on-le}
 use Rattle.checks.proofs.Refusal.{IsCheck, refuses-is-check, then-is-check, passed-clear, clear-first, clear-next, no-fault}
 use Rattle.dayfile.specs.Format.{distance-back, count-in, distance-in}
 use Rattle.dayfile.specs.Reader.{FileCheck}
-use Rattle.dayfile.specs.Writer.{file-length, RoomCheck}
 
 pub file-is-check : (file : List ℕ) (room : ℕ) → IsCheck (FileCheck file room)
 file-is-check file room =
@@ -38,19 +36,4 @@ good-file {file} {room} {a} e p =
       distance = on-eq (distance-in file) (distance-back (count-in file)) (λ h. h) (λ h. absurd (no-fault (clear-first distance-clear) h));
       whole = on-le (distance-in file) (length file) (λ h. h) (λ h. absurd (no-fault (clear-first length-clear) h));
       enough = on-le (count-in file) room (λ h. h) (λ h. absurd (no-fault (clear-next length-clear) h));
-    }
-
-pub room-is-check : (m n room : ℕ) → IsCheck (RoomCheck m n room)
-room-is-check m n room = then-is-check (refuses-is-check (λ e. omega arith)) (refuses-is-check (λ e. omega arith))
-
-pub record Writable (m n room : ℕ) : Type 0 where
-  pub few : n ≤ most-jobs
-  pub fits : file-length m n ≤ room
-
-pub writable : {m n room : ℕ} {a : Answer} → a .code ≡ done → (RoomCheck m n room then Passed) a → Writable m n room
-writable {m} {n} {room} {a} e p =
-    let clear : (b : Answer) → RoomCheck m n room b → ⊥ = passed-clear (room-is-check m n room) a p e in
-    record {
-      few = on-le n most-jobs (λ h. h) (λ h. absurd (no-fault (clear-first clear) h));
-      fits = on-le (file-length m n) room (λ h. h) (λ h. absurd (no-fault (clear-next clear) h));
     }

@@ -1,7 +1,5 @@
--- The laws of the day file, and that reading undoes writing.
+-- The laws of the day file and its reader.
 pub mod Format
-pub mod Stands
 pub mod Accepted
 pub mod RowsRead
-pub mod Recovered
 pub mod Unique

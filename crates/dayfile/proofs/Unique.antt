@@ -1,4 +1,4 @@
--- Two outcomes of reading that satisfy the promise are equal, and so are two of writing. Assumes nothing.
+-- Two outcomes of reading that satisfy the promise are equal. Assumes nothing.
 use Prim.Native.Nat.{ℕ}
 use mathlib.Core.Path.{_≡_, sym, _∙_, ap}
 use mathlib.Core.List.{List}
@@ -10,8 +10,7 @@ use Rattle.checks.proofs.Refusal.{code-of, passed-unique}
 use Rattle.day.proofs.Changed.{filled-unique}
 use Rattle.dayfile.specs.declared.reader.Reading.{Reading}
 use Rattle.dayfile.specs.Reader.{no-reading, ReadPromise}
-use Rattle.dayfile.specs.Writer.{WritePromise}
-use Rattle.dayfile.proofs.Accepted.{file-is-check, room-is-check}
+use Rattle.dayfile.proofs.Accepted.{file-is-check}
 use Rattle.dayfile.proofs.RowsRead.{day-ext}
 
 reading-ext : (r q : Reading) → r .answer ≡ q .answer → r .count ≡ q .count → r .day ≡ q .day → r ≡ q
@@ -46,15 +45,3 @@ read-unique {r = r} {q = q} p s =
       u .kept-releases ∙ sym (v .kept-releases),
       u .kept-deadlines ∙ sym (v .kept-deadlines),
     ))))))
-
-pub written-unique : {m : ℕ} {day : Day} {releases deadlines file after other : List ℕ} {a b : Answer}
-    → WritePromise m day releases deadlines file a after → WritePromise m day releases deadlines file b other → (a ≡ b) × (after ≡ other)
-written-unique {a = a} {b = b} p s =
-    give (passed-unique (room-is-check _ _ _) a b (p .answer) (s .answer))
-    (λ same.
-    give (code-of same)
-    (λ code. (
-      same,
-      on-eq (a .code) done (λ e. p .accepted e .between ∙ sym (s .accepted (sym code ∙ e) .between))
-          (λ h. p .refused h ∙ sym (s .refused (λ e. h (code ∙ e)))),
-    )))

@@ -1,5 +1,5 @@
 -- Reading undoes writing, cited. Assumes nothing.
-use Rattle.dayfile.proofs.Recovered.{reading-undoes-writing}
+use Rattle.filewriter.proofs.Recovered.{reading-undoes-writing}
 use Rattle.demands.specs.DayFile.{ReadsBack}
 
 pub reads-back : ReadsBack

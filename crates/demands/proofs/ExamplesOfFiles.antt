@@ -36,7 +36,7 @@ use Rattle.dayfile.specs.Format.{
   file-windows,
 }
 use Rattle.dayfile.specs.Reader.{no-reading, FilledFrom, FileCheck, RowsRead, NothingRead, ReadPromise}
-use Rattle.dayfile.specs.Writer.{file-length, RoomCheck}
+use Rattle.filewriter.specs.Writer.{file-length, RoomCheck}
 use Rattle.ledger.specs.Promise.{no-counts, Ledgered}
 use Rattle.report.specs.declared.Outcome.{Outcome}
 use Rattle.text.specs.declared.Text.{Text}

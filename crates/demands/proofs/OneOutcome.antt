@@ -10,7 +10,8 @@ use Rattle.ledger.proofs.Unique.{ledgered-unique, shown-unique}
 use Rattle.cutlist.proofs.Unique.{cut-rows-unique}
 use Rattle.fieldday.proofs.Unique.{open-unique, advance-unique, add-unique, offer-unique}
 use Rattle.moving.proofs.Unique.{moved-list-unique}
-use Rattle.dayfile.proofs.Unique.{read-unique, written-unique}
+use Rattle.dayfile.proofs.Unique.{read-unique}
+use Rattle.filewriter.proofs.Unique.{written-unique}
 use Rattle.chaskuri.proofs.Unique.{moved-jobs-unique, read-jobs-unique, slot-numbers-unique}
 use Rattle.text.proofs.Unique.{prints-unique}
 use Rattle.report.proofs.Unique.{file-unique, report-unique}

@@ -8,8 +8,8 @@ use Rattle.day.specs.declared.Day.{Day}
 use Rattle.checks.specs.Answer.{done}
 use Rattle.dayfile.specs.declared.reader.Reading.{Reading}
 use Rattle.dayfile.specs.Reader.{ReadPromise}
-use Rattle.dayfile.specs.Writer.{file-length, WritePromise}
-use Rattle.dayfile.specs.Recovered.{Recovered}
+use Rattle.filewriter.specs.Writer.{file-length, WritePromise}
+use Rattle.filewriter.specs.Recovered.{Recovered}
 
 -- a list is written after the first `notes` bytes of a lent buffer
 pub record Writing : Type 0 where

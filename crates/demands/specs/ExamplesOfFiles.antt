@@ -8,7 +8,7 @@ use Rattle.checks.specs.declared.Answer.{Answer}
 use Rattle.day.specs.declared.Day.{Day}
 use Rattle.dayfile.specs.declared.reader.Reading.{Reading}
 use Rattle.dayfile.specs.Reader.{ReadPromise}
-use Rattle.dayfile.specs.Writer.{WritePromise}
+use Rattle.filewriter.specs.Writer.{WritePromise}
 use Rattle.report.specs.declared.Outcome.{Outcome}
 use Rattle.text.specs.declared.Text.{Text}
 use Rattle.report.specs.File.{FilePromise, ReportPromise}

@@ -25,7 +25,7 @@ use Rattle.fieldday.specs.Promise.{OpenPromise, AdvancePromise, AddPromise, Off
 use Rattle.moving.specs.Moving.{MovePromise}
 use Rattle.dayfile.specs.declared.reader.Reading.{Reading}
 use Rattle.dayfile.specs.Reader.{ReadPromise}
-use Rattle.dayfile.specs.Writer.{WritePromise}
+use Rattle.filewriter.specs.Writer.{WritePromise}
 use Rattle.rows.specs.Columns.{releases, deadlines}
 use Rattle.chaskuri.specs.Slot.{SlotNumbered}
 use Rattle.report.specs.declared.Outcome.{Outcome}
@@ -72,6 +72,7 @@ pub record OneOutcome : Type 0 where
   -- dayfile
   pub read : (file releases deadlines : List ℕ)
       → AtMostOne {A = Reading × List ℕ × List ℕ} (λ o. ReadPromise file releases deadlines (o .0) (o .1) (o .2))
+  -- filewriter
   pub write : (notes : ℕ) (day : Day) (releases deadlines file : List ℕ)
       → AtMostOne {A = Answer × List ℕ} (λ o. WritePromise notes day releases deadlines file (o .0) (o .1))
   -- chaskuri: the record forms that write a list, and the slot's record in numbers; what the others promise is a promise above, at the list's windows

@@ -1,13 +1,13 @@
 // Writing a day file.
-use crate::MARK;
-use crate::ROW;
-use crate::TRAILER;
 use checks::Answer;
 use checks::MOST_JOBS;
 use checks::code;
 use day::Day;
 use day::at_or_zero;
 use day::wide;
+use dayfile::MARK;
+use dayfile::ROW;
+use dayfile::TRAILER;
 ghost use mathlib.Core.Path.{_≡_};
 ghost use mathlib.Core.List.{_++_};
 ghost use Prim.Native.Nat.{_+_, _*_, _<_, _≤_};
@@ -16,9 +16,9 @@ ghost use Rattle.checks.specs.Answer.{says};
 ghost use Rattle.checks.specs.Refusal.{_then_, Passed};
 ghost use Rattle.day.specs.Stored.{Stored};
 ghost use Rattle.day.specs.Windows.{windows};
 ghost use Rattle.dayfile.specs.Bytes.{bytes-of};
 ghost use Rattle.dayfile.specs.Format.{rows-bytes, trailer};
-ghost use Rattle.dayfile.specs.Writer.{RoomCheck, WritePromise};
+ghost use Rattle.filewriter.specs.Writer.{RoomCheck, WritePromise};
 
 // Writes rows and trailer after the first `notes` bytes of `file`. Where it refuses, no byte is touched.
 pub fn write(notes: usize, day: Day, releases: &[u16], deadlines: &[u16], file: &mut [u8]) -> Answer

@@ -1,14 +1,14 @@
--- `dayfile::writer::write` meets its contract. Assumes nothing.
+-- `filewriter::write` meets its contract. Assumes nothing.
 use mathlib.Core.Path.{refl}
 use native.Mathlib.Omega.{arith}
 use lib.ListN.{length}
 use borrow.Author.Needs.{needs}
 use Rattle.dayfile.specs.Format.{rows-and-trailer}
-use Rattle.dayfile.proofs.Format.{length-rows-bytes}
+use Rattle.filewriter.proofs.Format.{length-rows-bytes}
 use Rattle.day.proofs.Stored.{stored-more}
-use Rattle.dayfile.proofs.Accepted.{Writable, writable}
-use Rattle.dayfile.proofs.writer.write.Statement.{statement}
-use Rattle.dayfile.proofs.writer.write.Tie as tie
+use Rattle.filewriter.proofs.Accepted.{Writable, writable}
+use Rattle.filewriter.proofs.write.Statement.{statement}
+use Rattle.filewriter.proofs.write.Tie as tie
 
 -- a buffer that was not refused has the room
 accepted : (c : tie.Else1) →

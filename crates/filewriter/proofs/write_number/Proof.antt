@@ -1,11 +1,11 @@
--- `dayfile::writer::write_number` meets its contract. Assumes nothing.
+-- `filewriter::write_number` meets its contract. Assumes nothing.
 use native.Mathlib.Omega.{arith}
 use lib.ListN.{length-set}
 use borrow.Author.Needs.{needs}
 use Rattle.dayfile.specs.Bytes.{bytes-of}
 use Rattle.day.proofs.Stored.{stored-pair}
-use Rattle.dayfile.proofs.writer.write_number.Statement.{statement}
-use Rattle.dayfile.proofs.writer.write_number.Tie as tie
+use Rattle.filewriter.proofs.write_number.Statement.{statement}
+use Rattle.filewriter.proofs.write_number.Tie as tie
 
 slice-write-file-2 : tie.Need-slice-write-file-2
 slice-write-file-2 c = simp length-set (omega arith)

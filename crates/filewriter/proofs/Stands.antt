@@ -10,9 +10,9 @@ use Rattle.day.specs.declared.Day.{Day}
 use Rattle.day.specs.Windows.{Windows, at}
 use Rattle.day.specs.Stored.{Stored}
 use Rattle.day.proofs.Cases.{give, on-eq}
 use Rattle.dayfile.specs.Bytes.{bytes-of, number-at}
 use Rattle.dayfile.specs.Format.{row-bytes, rows-bytes, distance-back, trailer, number-in-row}
-use Rattle.dayfile.proofs.Format.{length-bytes-of, length-rows-bytes}
+use Rattle.filewriter.proofs.Format.{length-bytes-of, length-rows-bytes}
 
 pub record Stands (file : List ℕ) (place : ℕ) (bytes : List ℕ) : Type 0 where
   pub byte : (i : ℕ) → i < length bytes → at file (place + i) ≡ at bytes i

@@ -1,4 +1,4 @@
--- `dayfile::writer::write_rows` meets its contract: at each turn the rows so far are stored. Assumes nothing.
+-- `filewriter::write_rows` meets its contract: at each turn the rows so far are stored. Assumes nothing.
 use Prim.Native.Nat.{_+_, _*_, _-_, _≤_}
 use mathlib.Core.Path.{_≡_}
 use native.Mathlib.Numerals.{add-one}
@@ -7,11 +7,11 @@ use borrow.Author.Needs.{needs}
 use lib.ListN.{length}
 use Rattle.day.specs.Windows.{windows}
 use Rattle.day.specs.Stored.{Stored}
 use Rattle.dayfile.specs.Format.{row-bytes, rows-bytes}
 use Rattle.day.proofs.Stored.{stored-none, stored-more}
-use Rattle.dayfile.proofs.Format.{length-rows-bytes, rows-stored-length}
-use Rattle.dayfile.proofs.writer.write_rows.Statement.{statement}
-use Rattle.dayfile.proofs.writer.write_rows.Tie as tie
+use Rattle.filewriter.proofs.Format.{length-rows-bytes, rows-stored-length}
+use Rattle.filewriter.proofs.write_rows.Statement.{statement}
+use Rattle.filewriter.proofs.write_rows.Tie as tie
 
 abbrev Inv-loop : tie.InvT-loop
 Inv-loop releases deadlines file₀ from i₀ place₀ file i place =

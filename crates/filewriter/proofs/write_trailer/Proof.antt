@@ -1,11 +1,11 @@
--- `dayfile::writer::write_trailer` meets its contract. Assumes nothing.
+-- `filewriter::write_trailer` meets its contract. Assumes nothing.
 use native.Mathlib.Omega.{arith}
 use lib.ListN.{length-append}
 use borrow.Author.Needs.{needs}
-use Rattle.dayfile.proofs.Format.{length-bytes-of, trailer-numbers}
+use Rattle.filewriter.proofs.Format.{length-bytes-of, trailer-numbers}
 use Rattle.day.proofs.Stored.{stored-more}
-use Rattle.dayfile.proofs.writer.write_trailer.Statement.{statement}
-use Rattle.dayfile.proofs.writer.write_trailer.Tie as tie
+use Rattle.filewriter.proofs.write_trailer.Statement.{statement}
+use Rattle.filewriter.proofs.write_trailer.Tie as tie
 
 returns : tie.Need-returns
 returns c =

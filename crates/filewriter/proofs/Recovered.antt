@@ -16,16 +16,16 @@ use Rattle.day.specs.Stored.{Stored}
 use Rattle.day.proofs.Cases.{give}
 use Rattle.checks.proofs.Refusal.{code-of, then-clear, then-next}
 use Rattle.day.proofs.Changed.{changed-as}
 use Rattle.dayfile.specs.declared.reader.Reading.{Reading}
 use Rattle.dayfile.specs.Format.{rows-bytes, rows-and-trailer, distance-back, count-in, slots-in, wake-in, distance-in, HasMark, release-in, deadline-in}
 use Rattle.dayfile.specs.Reader.{FileCheck, ReadPromise}
-use Rattle.dayfile.specs.Writer.{file-length, WritePromise}
-use Rattle.dayfile.specs.Recovered.{Recovered}
-use Rattle.dayfile.proofs.Format.{length-rows-bytes, length-rows-and-trailer}
+use Rattle.filewriter.specs.Writer.{file-length, WritePromise}
+use Rattle.filewriter.specs.Recovered.{Recovered}
+use Rattle.filewriter.proofs.Format.{length-rows-bytes, length-rows-and-trailer}
 use Rattle.dayfile.proofs.RowsRead.{day-ext}
 use Rattle.day.proofs.Stored.{stored-length}
-use Rattle.dayfile.proofs.Stands.{Stands, stored-stands, stands-first, stands-next, rows-stand, trailer-stands}
-use Rattle.dayfile.proofs.Accepted.{Writable, writable}
+use Rattle.filewriter.proofs.Stands.{Stands, stored-stands, stands-first, stands-next, rows-stand, trailer-stands}
+use Rattle.filewriter.proofs.Accepted.{Writable, writable}
 
 -- what a file says in which rows and trailer stand last
 pub record Says (file : List ℕ) (day : Day) (w : Windows) : Type 0 where

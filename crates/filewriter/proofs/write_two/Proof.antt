@@ -1,10 +1,10 @@
--- `dayfile::writer::write_two` meets its contract. Assumes nothing.
+-- `filewriter::write_two` meets its contract. Assumes nothing.
 use native.Mathlib.Omega.{arith}
 use borrow.Author.Needs.{needs}
-use Rattle.dayfile.proofs.Format.{length-bytes-of}
+use Rattle.filewriter.proofs.Format.{length-bytes-of}
 use Rattle.day.proofs.Stored.{stored-more}
-use Rattle.dayfile.proofs.writer.write_two.Statement.{statement}
-use Rattle.dayfile.proofs.writer.write_two.Tie as tie
+use Rattle.filewriter.proofs.write_two.Statement.{statement}
+use Rattle.filewriter.proofs.write_two.Tie as tie
 
 returns : tie.Need-returns
 returns c =

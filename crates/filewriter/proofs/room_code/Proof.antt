@@ -1,11 +1,11 @@
--- `dayfile::writer::room_code` meets its contract. Assumes nothing.
+-- `filewriter::room_code` meets its contract. Assumes nothing.
 use mathlib.Core.Path.{refl}
 use native.Mathlib.Omega.{arith}
 use borrow.Author.Needs.{needs}
 use Rattle.checks.specs.Refusal.{stops, goes-on}
 use Rattle.checks.proofs.Refusal.{past, then-clear}
-use Rattle.dayfile.proofs.writer.room_code.Statement.{statement}
-use Rattle.dayfile.proofs.writer.room_code.Tie as tie
+use Rattle.filewriter.proofs.room_code.Statement.{statement}
+use Rattle.filewriter.proofs.room_code.Tie as tie
 
 returns : tie.Need-returns
 returns c = stops (stops (record { fault = omega arith; says = refl }))
