@@ -16,7 +16,8 @@ use Rattle.checks.specs.Check.{most-jobs, TimesCheck, ListCheck}
 use Rattle.checks.proofs.Check.{list-is-check, list-avoids}
 use Rattle.checks.proofs.Refusal.{refuses-is-check}
 use Rattle.claim.specs.Claim.{ClaimCheck, PricePromise}
-use Rattle.claim.specs.Choice.{ChoicePromise, PartFor, refused, of-own, of-server, PartPromise}
+use Rattle.choice.specs.Choice.{ChoicePromise, PartFor, refused, of-own, of-server, PartPromise}
+use Rattle.filewriter.specs.Writer.{RoomCheck, WritePromise}
 use Rattle.fieldday.specs.declared.FieldAnswer.{FieldAnswer}
 use Rattle.fieldday.specs.Promise.{OpenPromise}
 use Rattle.filewriter.specs.Writer.{RoomCheck, WritePromise}

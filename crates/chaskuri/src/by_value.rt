@@ -14,7 +14,8 @@ use rows::rows_put;
 ghost use Rattle.checks.specs.Refusal.{_then_, Passed};
 ghost use Rattle.checks.specs.Check.{TimesCheck};
 ghost use Rattle.claim.specs.Claim.{PricePromise};
-ghost use Rattle.claim.specs.Choice.{ChoicePromise, PartPromise};
+ghost use Rattle.choice.specs.Choice.{ChoicePromise, PartPromise};
+ghost use Rattle.filewriter.specs.Writer.{WritePromise};
 ghost use Rattle.fieldday.specs.Promise.{OpenPromise};
 ghost use Rattle.filewriter.specs.Writer.{WritePromise};
 ghost use Rattle.ledger.specs.Promise.{LedgerPromise, SlotPromise};
@@ -72,7 +73,7 @@ pub(crate) fn which(day: Day, rows: Rows, own: &[u16], server: &[u16]) -> Answer
     let count = rows.count;
     let releases = rows.releases;
     let deadlines = rows.deadlines;
-    claim::which(day, &releases[..count], &deadlines[..count], own, server)
+    choice::which(day, &releases[..count], &deadlines[..count], own, server)
 }
 
 pub(crate) fn choose<'a>(day: Day, rows: Rows, own: &'a [u16], server: &'a [u16]) -> &'a [u16]
@@ -82,7 +83,7 @@ pub(crate) fn choose<'a>(day: Day, rows: Rows, own: &'a [u16], server: &'a [u16]
     let count = rows.count;
     let releases = rows.releases;
     let deadlines = rows.deadlines;
-    claim::choose(day, &releases[..count], &deadlines[..count], own, server)
+    choice::choose(day, &releases[..count], &deadlines[..count], own, server)
 }
 
 pub(crate) fn ledger(day: Day, rows: Rows, starts: &[u16]) -> LedgerAnswer

@@ -14,7 +14,7 @@ use ledger::SlotAnswer;
 ghost use Rattle.checks.specs.Refusal.{_then_, Passed};
 ghost use Rattle.checks.specs.Check.{TimesCheck};
 ghost use Rattle.claim.specs.Claim.{PricePromise};
-ghost use Rattle.claim.specs.Choice.{ChoicePromise, PartPromise};
+ghost use Rattle.choice.specs.Choice.{ChoicePromise, PartPromise};
 ghost use Rattle.dayfile.specs.Reader.{ReadPromise};
 ghost use Rattle.fieldday.specs.Promise.{OpenPromise, AdvancePromise, AddPromise, OfferPromise};
 ghost use Rattle.filewriter.specs.Writer.{WritePromise};

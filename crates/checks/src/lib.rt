@@ -5,7 +5,7 @@ ghost use mathlib.Core.Path.{_≡_};
 ghost use lib.ListN.{length};
 ghost use Rattle.day.specs.Windows.{windows};
 ghost use Rattle.checks.specs.Zero.{zeroed};
-ghost use Rattle.checks.specs.Answer.{says};
+ghost use Rattle.checks.specs.Answer.{says, done};
 ghost use Rattle.checks.specs.Refusal.{_then_, Passed};
 ghost use Rattle.checks.specs.Check.{SlotsCheck, PowerCheck, BadRow, JobsCheck, TimesCheck, ListCheck};
 ghost use Rattle.checks.specs.steps.FirstOrEnd.{FirstOrEnd};
@@ -31,6 +31,17 @@ impl Answer {
         Self {
             code,
             first: 0,
+            second: 0,
+        }
+    }
+
+    // The answer 0 with its first number.
+    pub fn done(first: u16) -> Self
+        ensures { λ a. ⌜ a ≡ says done first 0 ⌝ }
+    {
+        Self {
+            code: code::DONE,
+            first,
             second: 0,
         }
     }

@@ -1,6 +1,5 @@
--- Claimed plans: how one is judged and priced, which of two wins, and which row stands in a slot. What functions promise each other
--- on the way is in `steps`.
+-- Claimed plans: how one is judged and priced, and which row stands in a slot. What functions promise each other on the way is in
+-- `steps`.
 pub mod Claim
 pub mod Rows
-pub mod Choice
 pub mod steps

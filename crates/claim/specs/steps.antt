@@ -1,4 +1,3 @@
 -- What functions of claimed plans promise each other.
 pub mod Starts
-pub mod Compared
 pub mod Pair

@@ -13,7 +13,7 @@ use Rattle.day.specs.Gap.{price, ended, gaps-since, gaps, total, cost}
 use Rattle.checks.specs.Answer.{says, done}
 use Rattle.checks.specs.Check.{ListCheck}
 use Rattle.claim.specs.Claim.{Fit, OutsideWindow, Together, StartsCheck, ClaimCheck, plan-cost}
-use Rattle.claim.specs.Choice.{own-plan, server-plan, own-wins, server-wins, NamesWinner, NeitherCheck}
+use Rattle.choice.specs.Choice.{own-plan, server-plan, own-wins, server-wins, NamesWinner, NeitherCheck}
 use Rattle.claim.proofs.Claim.{clear-fit}
 use Rattle.demands.specs.ExamplesOfClaims.{
   Claim,

@@ -5,7 +5,8 @@ use Rattle.checks.proofs.Refusal.{passed-unique}
 use Rattle.checks.proofs.Check.{slots-is-check, power-is-check, jobs-is-check, times-is-check, list-is-check}
 use Rattle.day.proofs.Unique.{numbering-unique}
 use Rattle.planner.proofs.Unique.{plan-unique}
-use Rattle.claim.proofs.Unique.{judged-unique, priced-unique, chosen-unique, handed-unique, next-unique}
+use Rattle.claim.proofs.Unique.{judged-unique, priced-unique, next-unique}
+use Rattle.choice.proofs.Unique.{chosen-unique, handed-unique}
 use Rattle.ledger.proofs.Unique.{ledgered-unique, shown-unique}
 use Rattle.cutlist.proofs.Unique.{cut-rows-unique}
 use Rattle.fieldday.proofs.Unique.{open-unique, advance-unique, add-unique, offer-unique}

@@ -6,7 +6,7 @@ use Rattle.checks.specs.declared.Answer.{Answer}
 use Rattle.day.specs.declared.Day.{Day}
 use Rattle.day.specs.Windows.{Windows}
 use Rattle.claim.specs.Claim.{PricePromise}
-use Rattle.claim.specs.Choice.{ChoicePromise}
+use Rattle.choice.specs.Choice.{ChoicePromise}
 use Rattle.demands.specs.ExamplesTable.{answer-of, _gives_, Table, day-with, list-with, P8}
 
 pub record Claim : Type 0 where

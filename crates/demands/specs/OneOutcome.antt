@@ -16,7 +16,7 @@ use Rattle.day.specs.Numbering.{Numbering}
 use Rattle.planner.specs.Promise.{PlanPromise}
 use Rattle.claim.specs.Claim.{PricePromise}
 use Rattle.claim.specs.Rows.{NextJob, Judged}
-use Rattle.claim.specs.Choice.{ChoicePromise, PartPromise, SamePart}
+use Rattle.choice.specs.Choice.{ChoicePromise, PartPromise, SamePart}
 use Rattle.ledger.specs.Promise.{LedgerPromise, SlotPromise}
 use Rattle.cutlist.specs.CutRows.{HoldsCut}
 use Rattle.fieldday.specs.declared.FieldDay.{FieldDay}

@@ -163,11 +163,11 @@ pub(crate) fn chosen<'a>(case: &[u16], own: &'a [u16], server: &'a [u16]) -> boo
     let deadlines = case::deadlines(case);
     let expected = winner(direct::judged(case, own), direct::judged(case, server));
     same_answer(
-        claim::which(day, releases, deadlines, own, server),
+        choice::which(day, releases, deadlines, own, server),
         expected,
     )
         && same_numbers(
-            claim::choose(day, releases, deadlines, own, server),
+            choice::choose(day, releases, deadlines, own, server),
             winning(expected, own, server, case::count(case)),
         )
 }

@@ -1,9 +1,8 @@
-// A call of the library, as its callers make it, beside the twin's.
+// A call of the library, over lists of numbers, beside the twin's.
 use crate::state;
 use crate::tally;
 use crate::twin;
 use checks::code;
-use day::Job;
 use day::at_or_zero;
 use day::lesser;
 use day::wide;
@@ -38,10 +37,10 @@ fn is_same(state: &[u16], kind: u16, numbers: &[u16], places: usize, next: &[u16
         return adds(state, numbers, places, next);
     }
     if kind == twin::OFFER {
-        return gives(chaskuri::chaskuri_offer(field_day(state), numbers), next);
+        return gives(fieldday::offer(field_day(state), numbers), next);
     }
     if kind == twin::ADVANCE {
-        return gives(chaskuri::chaskuri_advance(field_day(state)), next);
+        return gives(fieldday::advance(field_day(state)), next);
     }
     let releases = state::rows(state, state::RELEASES);
     let deadlines = state::rows(state, state::DEADLINES);
@@ -72,11 +71,12 @@ fn adds(state: &[u16], window: &[u16], places: usize, next: &[u16]) -> bool {
 
 fn added(field: FieldDay, window: &[u16], places: usize, table: &mut [u16]) -> FieldAnswer {
     let room = lesser(places, table.len());
-    let job = Job {
-        release: at_or_zero(window, 0),
-        deadline: at_or_zero(window, 1),
-    };
-    chaskuri::chaskuri_add(field, job, &mut table[..room])
+    fieldday::add(
+        field,
+        at_or_zero(window, 0),
+        at_or_zero(window, 1),
+        &mut table[..room],
+    )
 }
 
 fn field_day(state: &[u16]) -> FieldDay {

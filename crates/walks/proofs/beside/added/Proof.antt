@@ -6,7 +6,7 @@ use borrow.Author.Needs.{needs}
 use Rattle.walks.proofs.beside.added.Statement.{statement}
 use Rattle.walks.proofs.beside.added.Tie as tie
 
-slice-aggregate : tie.Need-slice-aggregate-chaskuri-add
+slice-aggregate : tie.Need-slice-aggregate-add
 slice-aggregate c = sym (length-take-le _ _ (omega arith))
 
 pub added-spec : {M : Type 1} → statement M

@@ -3,7 +3,7 @@ use Prim.Native.Nat.{_≤_, _<_}
 use mathlib.Core.Path.{_≡_}
 use Rattle.checks.specs.declared.Answer.{Answer}
 use Rattle.checks.specs.Answer.{says, done, neither-proper}
-use Rattle.claim.specs.Choice.{own-plan, server-plan}
+use Rattle.choice.specs.Choice.{own-plan, server-plan}
 
 -- the companion's answer, from the answers of pricing the two plans
 pub data Compared (own server a : Answer) : Type 0 where

@@ -10,8 +10,8 @@ use Rattle.checks.specs.Answer.{says, done}
 use Rattle.checks.specs.Refusal.{_then_, stops, goes-on}
 use Rattle.checks.proofs.Refusal.{IsCheck, refuses-is-check, then-done}
 use Rattle.day.proofs.Cases.{give, on-eq}
 use Rattle.claim.specs.Claim.{Fit, plan-cost}
-use Rattle.claim.specs.Choice.{
+use Rattle.choice.specs.Choice.{
   own-plan,
   server-plan,
   Wins,
@@ -21,9 +21,9 @@ use Rattle.claim.specs.Choice.{
   NeitherCheck,
   Chosen,
 }
 use Rattle.claim.specs.steps.Starts.{PricedStarts}
-use Rattle.claim.specs.steps.Compared.{Compared, keeps-own, takes-server, neither}
+use Rattle.choice.specs.steps.Compared.{Compared, keeps-own, takes-server, neither}
 use Rattle.claim.proofs.Claim.{priced-fit, priced-unfit}
 
 pub neither-is-check : (w : Windows) (own server : List ℕ) → IsCheck (NeitherCheck w own server)
 neither-is-check w own server = refuses-is-check (λ e. omega arith)

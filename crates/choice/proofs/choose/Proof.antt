@@ -1,14 +1,14 @@
--- `claim::choose` meets its contract. Assumes nothing.
+-- `choice::choose` meets its contract. Assumes nothing.
 use mathlib.Core.Path.{refl, sym}
 use borrow.Author.Needs.{needs}
 use lib.Seq.{length-take-le}
 use Rattle.day.proofs.Cases.{give}
 use Rattle.checks.proofs.Check.{list-is-check}
 use Rattle.day.specs.Windows.{windows}
-use Rattle.claim.specs.Choice.{NamesWinner, refused, of-own, of-server}
-use Rattle.claim.proofs.Choice.{chosen-named, named-own, named-server}
-use Rattle.claim.proofs.choose.Statement.{statement}
-use Rattle.claim.proofs.choose.Tie as tie
+use Rattle.choice.specs.Choice.{NamesWinner, refused, of-own, of-server}
+use Rattle.choice.proofs.Choice.{chosen-named, named-own, named-server}
+use Rattle.choice.proofs.choose.Statement.{statement}
+use Rattle.choice.proofs.choose.Tie as tie
 
 returns : tie.Need-returns
 returns c =

@@ -1,8 +1,8 @@
--- `claim::cheaper` meets its contract. Assumes nothing.
+-- `choice::cheaper` meets its contract. Assumes nothing.
 use borrow.Author.Needs.{needs}
-use Rattle.claim.specs.steps.Compared.{keeps-own, takes-server, neither}
-use Rattle.claim.proofs.cheaper.Statement.{statement}
-use Rattle.claim.proofs.cheaper.Tie as tie
+use Rattle.choice.specs.steps.Compared.{keeps-own, takes-server, neither}
+use Rattle.choice.proofs.cheaper.Statement.{statement}
+use Rattle.choice.proofs.cheaper.Tie as tie
 
 returns : tie.Need-returns
 returns c = neither (c .before .before .before .if1 .taken) (c .before .if2 .taken) (c .of .ensures)

@@ -1,0 +1,3 @@
+-- The laws of the choice.
+pub mod Choice
+pub mod Unique

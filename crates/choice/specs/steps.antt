@@ -1,0 +1,2 @@
+-- What functions of the choice promise each other.
+pub mod Compared
