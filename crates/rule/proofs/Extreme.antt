@@ -1,7 +1,7 @@
 -- The laws of `least` and `latest`. Assumes nothing.
 use Prim.Native.Nat.{ℕ, zero, suc, _+_, _≤_, _<_, min}
 use mathlib.Core.Path.{_≡_, refl, sym, _∙_, ap}
-use mathlib.Core.Bool.{Bool, true, false}
+use mathlib.Core.Bool.{Bool, true, false, cond}
 use native.Mathlib.Numerals.{add-one}
 use native.Mathlib.Omega.{arith}
 use Rattle.day.proofs.Cases.{on, on-eq, on-le, give, not-both}
@@ -95,13 +95,20 @@ least-none-pass pass f none a (suc b) l n =
     skip-suc pass f none b (n b (omega arith) (omega arith))
     ∙ least-none-pass pass f none a b (omega arith) (λ t h u. n t h (omega arith)))
 
-pub latest-pass : (pass : ℕ → Bool) (m : ℕ) → pass m ≡ true → latest pass (m + 1) ≡ m
+-- the next place passes, or not
+latest-next : (pass : ℕ → Bool) (m : ℕ) → pass m ≡ true → latest pass (suc m) ≡ m
 unfolding latest
-latest-pass pass m e = rw (add-one, e)
+latest-next pass m e = ap (λ (b : Bool). cond b m (latest pass m)) e
+
+latest-before : (pass : ℕ → Bool) (m : ℕ) → pass m ≡ false → latest pass (suc m) ≡ latest pass m
+unfolding latest
+latest-before pass m e = ap (λ (b : Bool). cond b m (latest pass m)) e
+
+pub latest-pass : (pass : ℕ → Bool) (m : ℕ) → pass m ≡ true → latest pass (m + 1) ≡ m
+latest-pass pass m e = rw add-one (latest-next pass m e)
 
 pub latest-skip : (pass : ℕ → Bool) (m : ℕ) → pass m ≡ false → latest pass (m + 1) ≡ latest pass m
-unfolding latest
-latest-skip pass m e = rw (add-one, e)
+latest-skip pass m e = rw add-one (latest-before pass m e)
 
 pub latest-zero : (pass : ℕ → Bool) → latest pass 0 ≡ 0
 unfolding latest
@@ -130,12 +137,11 @@ pub record Latest (pass : ℕ → Bool) (m t l : ℕ) : Type 0 where
   pub late : t ≤ l
 
 pub latest-is : (pass : ℕ → Bool) (m t : ℕ) → t < m → pass t ≡ true → Latest pass m t (latest pass m)
-unfolding latest
 latest-is pass zero t h p = absurd (omega arith)
 latest-is pass (suc m) t h p =
     on (pass m)
-    (λ e. rw e (record { below = omega arith; passes = e; late = omega arith }))
-    (λ e. rw e
+    (λ e. rw (latest-next pass m e) (record { below = omega arith; passes = e; late = omega arith }))
+    (λ e. rw (latest-before pass m e)
     (on-eq t m (λ q. absurd (not-both (rw q at p) e))
     (λ q.
     give (latest-is pass m t (omega arith) p)

@@ -11,7 +11,7 @@ returns c =
       outcome = planned .result;
       starts = planned .last .1 .0;
       reported = planned .ensures;
-      prints = rw (all-rows-shown _ _ _ (planned .ensures)) at (c .render .ensures);
+      prints = rw (← all-rows-shown _ _ _ (planned .ensures)) (c .render .ensures);
     }
 
 pub report-spec : {M : Type 1} → statement M
