@@ -113,7 +113,7 @@ module _ (day : Day) (by : ℤ) (w v : Windows) (moved : Moved by w v)
         ends = offset-proper (later by) (earlier by) w v p (moved-offset by w v moved) (a .proper)
 
         best : Best day v there
-        best = best-offset day (later by) (earlier by) w v p there (moved-offset by w v moved) ends cost-moved a
+        best = moved-best p there (λ i l. offset-shifts by (p i) (there i) (ends i l)) a
 
     -- and costs as much
     pub moved-best-cost : (p q : Plan) → Best day w p → Best day v q → cost day (w .count) p ≡ cost day (v .count) q
