@@ -93,6 +93,7 @@ fn find(
         count,
         0,
         end,
+        value,
         shape,
         begins,
         rel,

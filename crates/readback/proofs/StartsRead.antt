@@ -13,12 +13,13 @@ use Rattle.rule.specs.Span.{Problem, value, split, read-back}
 use Rattle.rule.specs.SpanPlan.{In}
 use Rattle.rule.proofs.Value.{value-out, sides-is, LatestBest, split-found, read-back-out, read-back-last, read-back-left, read-back-right}
 use Rattle.rule.proofs.Alike.{split-alike}
-use Rattle.engine.specs.Places.{SpanIn}
+use Rattle.engine.specs.Places.{SpanIn, place}
 use Rattle.engine.specs.Lent.{Lent, layout-of}
+use Rattle.engine.specs.Filled.{ValuesHeld}
 use Rattle.readback.specs.StartsRead.{ReadBackAsks, PlanHeld, Among, StartsRead}
-use Rattle.engine.specs.steps.OneMore.{more-of, one-job, Fillable}
+use Rattle.engine.specs.steps.OneMore.{more-of, one-job, value-with, Fillable}
 use Rattle.engine.proofs.Places.{places-more}
-use Rattle.engine.proofs.OneJob.{alike-posed}
+use Rattle.engine.proofs.OneJob.{alike-posed, value-with-posed}
 use Rattle.engine.proofs.Level.{prepared-fewer, posed-fewer}
 
 pub asks-fewer : {G : Lent} {table : List ℕ} {n : ℕ} → ReadBackAsks G table n → (m : ℕ) → m ≤ n → ReadBackAsks G table m
@@ -104,19 +105,29 @@ module _ (P : Problem) where
 -- the highest of the lowest n jobs that are released in the span has the number k
 module _ {P : Problem} {G : Lent} {table : List ℕ} {n s e : ℕ} (holds : PlanHeld P G table n s e) (k : ℕ) (below : k < n)
     (higher : (i : ℕ) → suc k ≤ i → i < n → (s ≤ at (G .rel) i) × (at (G .rel) i < e) → ⊥)
-    (highest : (s ≤ at (G .rel) k) × (at (G .rel) k < e)) (t : ℕ) (found : t ≡ split (one-job (more-of G k) table) 0 s e) where
+    (highest : (s ≤ at (G .rel) k) × (at (G .rel) k < e)) (v : ℕ) (held : v ≡ at table (place (layout-of G) n s e)) (t : ℕ)
+    (found : v ≡ value-with (more-of G k) table s e → v < G .shape .none → t ≡ split (one-job (more-of G k) table) 0 s e) where
   inside : In P s e k
   inside = rw (holds .posed .release k below) highest
 
   passed : (i : ℕ) → suc k ≤ i → i < n → In P s e i → ⊥
   passed i h l w = higher i h l (rw (holds .posed .release i l) at w)
 
+  level : ValuesHeld P (layout-of G) k table
+  level = holds .levels k (omega arith)
+
+  -- the jobs above it leave the span's value as it is
+  value-held : v ≡ value P (suc k) s e
+  value-held = held ∙ holds .levels n (omega arith) s e (holds .span) ∙ value-passed P n (suc k) s e (omega arith) passed
+
   some : value P (suc k) s e < P .none
   some = omega (arith, holds .some, value-passed P n (suc k) s e (omega arith) passed)
 
   split-found-there : t ≡ split P k s e
   split-found-there =
-      found ∙ split-alike (alike-posed G table k (holds .posed) below (holds .levels k (omega arith))) s e (holds .span .1) highest
+      found (value-held ∙ sym (value-with-posed G table k (holds .posed) below level s e (holds .span)))
+      (omega (arith, value-held, some, holds .posed .none))
+      ∙ split-alike (alike-posed G table k (holds .posed) below level) s e (holds .span .1) highest
 
   best : LatestBest P k s e t
   best = rw split-found-there (split-found P k s e inside some)

@@ -1,2 +1,3 @@
 -- What functions of the read-back promise each other.
 pub mod Highest
+pub mod SplitFound

@@ -3,18 +3,26 @@ ghost use mathlib.Core.Path.{_≡_};
 ghost use Prim.Native.Nat.{_+_, _<_, _≤_};
 ghost use lib.ListN.{length};
 ghost use Rattle.day.specs.Windows.{at};
-ghost use Rattle.rule.specs.Span.{Problem, split};
+ghost use Rattle.rule.specs.Span.{Problem};
 ghost use Rattle.engine.specs.Places.{place, layout};
 ghost use Rattle.engine.specs.Lent.{lent};
 ghost use Rattle.readback.specs.StartsRead.{ReadBackAsks, PlanHeld, StartsRead};
-ghost use Rattle.engine.specs.steps.OneMore.{one-more, more-of, one-job, Fillable};
+ghost use Rattle.engine.specs.steps.OneMore.{one-more, more-of, Fillable};
+ghost use Rattle.readback.specs.steps.SplitFound.{SidesRead, SplitFound};
 ghost use Rattle.readback.specs.steps.Highest.{Tells, UpToInside};
 use engine::Shape;
 use engine::bands;
 use engine::wide_at;
 
-// The sum of the two sides of the span from `from` to `to`, if it is split at `point`.
-fn sum_of_sides(
+// A split of a span: its place, and the values of the two sides.
+pub struct Split {
+    pub point: usize,
+    pub left: u16,
+    pub right: u16,
+}
+
+// The split of the span from `from` to `to` at `point`, with what the level below `job` has for the two sides.
+fn split_at(
     shape: Shape,
     begins: &[usize],
     table: &[u16],
@@ -22,19 +30,18 @@ fn sum_of_sides(
     from: usize,
     point: usize,
     to: usize,
-) -> u16
+) -> Split
     requires { ⌜ (from < length (now begins)) × (point + 1 < length (now begins)) ⌝ }
     requires { ⌜ (place (layout shape (now begins)) job from point < length (now table)) × (place (layout shape (now begins)) job (point + 1) to < length (now table)) ⌝ }
-    requires { ⌜ at (now table) (place (layout shape (now begins)) job from point) + at (now table) (place (layout shape (now begins)) job (point + 1) to) < 65536 ⌝ }
-    ensures { λ r. ⌜ r ≡ at (now (table .entry)) (place (layout shape (now (begins .entry))) job from point) + at (now (table .entry)) (place (layout shape (now (begins .entry))) job (point + 1) to) ⌝ }
+    ensures { λ r. ⌜ (r .point ≡ point) × SidesRead (layout shape (now (begins .entry))) (now (table .entry)) job from to r ⌝ }
 {
     let left = bands::value_at(table, shape, begins, job, from, point);
     let right = bands::value_at(table, shape, begins, job, point + 1, to);
-    left + right
+    Split { point, left, right }
 }
 
-// Where `job`, with this window, splits the span from `from` to `to`, in which it is released: of the places with the least sum of the
-// two sides the latest.
+// Where `job`, with this window, splits the span from `from` to `to`, in which it is released and whose value is known: the first place
+// from the evening side with that sum. If no later place has it, the release does.
 fn latest_best(
     shape: Shape,
     begins: &[usize],
@@ -45,29 +52,26 @@ fn latest_best(
     deadline: usize,
     from: usize,
     to: usize,
-) -> usize
+    value: u16,
+) -> Split
     requires { ⌜ Fillable (one-more shape (now begins) (now marks) job release deadline) (now table) ⌝ }
     requires { ⌜ (from ≤ release) × (release < to) × (to < shape .points) ⌝ }
-    ensures { λ r. ⌜ r ≡ split (one-job (one-more shape (now (begins .entry)) (now (marks .entry)) job release deadline) (now (table .entry))) 0 from to ⌝ }
+    ensures { λ r. ⌜ SplitFound (one-more shape (now (begins .entry)) (now (marks .entry)) job release deadline) (now (table .entry)) from to value r ⌝ }
 {
-    let end = day::lesser(deadline, to);
-    let mut least = shape.none;
-    let mut found = 0;
-    let mut point = release;
-    while point < end {
+    let mut point = day::lesser(deadline, to) - 1;
+    while release < point {
         if job < wide_at(marks, point) {
-            let sum = sum_of_sides(shape, begins, table, job, from, point, to);
-            if sum <= least {
-                least = sum;
-                found = point;
+            let split = split_at(shape, begins, table, job, from, point, to);
+            if split.left + split.right == value {
+                return split;
             }
         }
-        point += 1;
+        point -= 1;
     }
-    found
+    split_at(shape, begins, table, job, from, release, to)
 }
 
-// Where `job`, which is released in the span from `from` to `to`, splits it.
+// Where `job`, which is released in the span from `from` to `to`, splits it, the span's value being known.
 fn split_of(
     shape: Shape,
     begins: &[usize],
@@ -78,10 +82,11 @@ fn split_of(
     job: usize,
     from: usize,
     to: usize,
-) -> usize
+    value: u16,
+) -> Split
     requires { ⌜ ReadBackAsks (lent shape (now begins) (now rel) (now dead) (now marks)) (now table) (job + 1) ⌝ }
     requires { ⌜ (from ≤ at (now rel) job) × (at (now rel) job < to) × (to < shape .points) ⌝ }
-    ensures { λ r. ⌜ r ≡ split (one-job (more-of (lent shape (now (begins .entry)) (now (rel .entry)) (now (dead .entry)) (now (marks .entry))) job) (now (table .entry))) 0 from to ⌝ }
+    ensures { λ r. ⌜ SplitFound (more-of (lent shape (now (begins .entry)) (now (rel .entry)) (now (dead .entry)) (now (marks .entry))) job) (now (table .entry)) from to value r ⌝ }
 {
     let release = wide_at(rel, job);
     let deadline = wide_at(dead, job);
@@ -95,6 +100,7 @@ fn split_of(
         deadline,
         from,
         to,
+        value,
     )
 }
 
@@ -122,12 +128,13 @@ fn up_to_inside(rel: &[u16], count: usize, from: usize, to: usize) -> usize
     0
 }
 
-// Reads back, by number, the starts of the lowest `count` jobs that are released in the span from `from` to `to`: the highest of them
-// splits the span, then each side in turn.
+// Reads back, by number, the starts of the lowest `count` jobs that are released in the span from `from` to `to`, whose value for them is
+// given: the highest of them splits the span, then each side in turn with the value that was read to find the split.
 pub fn read_back(
     count: usize,
     from: usize,
     to: usize,
+    value: u16,
     shape: Shape,
     begins: &[usize],
     rel: &[u16],
@@ -138,6 +145,7 @@ pub fn read_back(
 )
     requires { ⌜ ReadBackAsks (lent shape (now begins) (now rel) (now dead) (now marks)) (now table) count ⌝ }
     requires { ⌜ (to < shape .points) × (count ≤ length (now starts)) ⌝ }
+    requires { ⌜ value ≡ at (now table) (place (layout shape (now begins)) count from to) ⌝ }
     ensures { λ _. ⌜ (length (now (starts .exit)) ≡ length (now (starts .entry))) × ((P : Problem) → PlanHeld P (lent shape (now (begins .entry)) (now (rel .entry)) (now (dead .entry)) (now (marks .entry))) (now (table .entry)) count from to → StartsRead P count from to (now (starts .entry)) (now (starts .exit))) ⌝ }
 {
     let left = up_to_inside(rel, count, from, to);
@@ -145,12 +153,13 @@ pub fn read_back(
         return;
     }
     let job = left - 1;
-    let split = split_of(shape, begins, rel, dead, marks, table, job, from, to);
-    starts[job] = split as u16;
+    let split = split_of(shape, begins, rel, dead, marks, table, job, from, to, value);
+    starts[job] = split.point as u16;
     read_back(
         job,
         from,
-        split,
+        split.point,
+        split.left,
         shape,
         begins,
         rel,
@@ -161,8 +170,9 @@ pub fn read_back(
     );
     read_back(
         job,
-        split + 1,
+        split.point + 1,
         to,
+        split.right,
         shape,
         begins,
         rel,

@@ -104,32 +104,6 @@ latest-before : (pass : ℕ → Bool) (m : ℕ) → pass m ≡ false → latest 
 unfolding latest
 latest-before pass m e = ap (λ (b : Bool). cond b m (latest pass m)) e
 
-pub latest-pass : (pass : ℕ → Bool) (m : ℕ) → pass m ≡ true → latest pass (m + 1) ≡ m
-latest-pass pass m e = rw add-one (latest-next pass m e)
-
-pub latest-skip : (pass : ℕ → Bool) (m : ℕ) → pass m ≡ false → latest pass (m + 1) ≡ latest pass m
-latest-skip pass m e = rw add-one (latest-before pass m e)
-
-pub latest-zero : (pass : ℕ → Bool) → latest pass 0 ≡ 0
-unfolding latest
-latest-zero pass = refl
-
-pub latest-below : (pass : ℕ → Bool) (m : ℕ) → latest pass m ≤ m
-latest-below pass zero = omega (arith, latest-zero pass)
-latest-below pass (suc m) =
-    on (pass m) (λ e. rw (← add-one m) (omega (arith, latest-pass pass m e)))
-    (λ e. rw (← add-one m) (omega (arith, latest-skip pass m e, latest-below pass m)))
-
--- places that fail add nothing
-pub latest-none-pass : (pass : ℕ → Bool) (a b : ℕ) → a ≤ b → ((t : ℕ) → a ≤ t → t < b → pass t ≡ false)
-    → latest pass b ≡ latest pass a
-latest-none-pass pass a zero l n = ap (latest pass) (omega arith)
-latest-none-pass pass a (suc b) l n =
-    on-eq a (suc b) (λ q. ap (latest pass) (sym q))
-    (λ q.
-    rw (← add-one b) (latest-skip pass b (n b (omega arith) (omega arith)))
-    ∙ latest-none-pass pass a b (omega arith) (λ t h u. n t h (omega arith)))
-
 -- l passes below m, and t is no later
 pub record Latest (pass : ℕ → Bool) (m t l : ℕ) : Type 0 where
   pub below : l < m

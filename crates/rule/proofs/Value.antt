@@ -9,7 +9,7 @@ use Rattle.day.proofs.Cases.{on, on-eq, give, not-both, and-left, and-right, an
 use Rattle.rule.specs.Extreme.{least, latest}
 use Rattle.rule.specs.Span.{Problem, in-span, clear, may-split, value-by, value, sides, best-split, split, read-back}
 use Rattle.rule.specs.SpanPlan.{In}
-use Rattle.rule.proofs.Extreme.{least-le, least-found, Latest, latest-is, latest-below}
+use Rattle.rule.proofs.Extreme.{least-le, least-found, Latest, latest-is}
 
 pub in-span-true : (P : Problem) (s e k : ℕ) → in-span P s e k ≡ true → In P s e k
 unfolding in-span
@@ -101,9 +101,6 @@ value-le-sides P k s e t h m l =
 pub split-is : (P : Problem) (k s e : ℕ) → split P k s e ≡ latest (best-split P k s e) e
 unfolding split
 split-is P k s e = refl
-
-pub split-below : (P : Problem) (k s e : ℕ) → split P k s e ≤ e
-split-below P k s e = omega (arith, split-is P k s e, latest-below (best-split P k s e) e)
 
 pub best-split-is : (P : Problem) (k s e t : ℕ)
     → best-split P k s e t ≡ (may-split P k t && eqb (sides P k s e t) (value P (suc k) s e))

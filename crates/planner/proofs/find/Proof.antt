@@ -16,7 +16,8 @@ returns c =
 
 read-back-requires : tie.Need-read-back-requires
 read-back-requires c κs =
-    let s = c .before .before .before .before .before .before .before .before .before .before in (s .pre .0, (omega (arith, s .pre .1 .1), omega (arith, s .pre .1 .0)))
+    let s = c .before .before .before .before .before .before .before .before .before .before in
+    (s .pre .0, ((omega (arith, s .pre .1 .1), omega (arith, s .pre .1 .0)), c .before .before .before .value-at .ensures))
 
 returns-2 : tie.Need-returns-2
 returns-2 c =

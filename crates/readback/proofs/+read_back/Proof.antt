@@ -2,15 +2,13 @@
 use Prim.Native.Nat.{ℕ, suc, _+_, _-_, _≤_, _<_}
 use mathlib.Core.Path.{_≡_, refl, _∙_}
 use native.Mathlib.Omega.{arith}
-use lib.ListN.{length-set}
+use lib.ListN.{length, length-set}
 use denote.Ref.{now}
 use borrow.Fn.Kinds as kinds
 use borrow.Fn.PlainCycle.{Measures, is, falls, and}
 use Rattle.day.specs.Windows.{at}
 use Rattle.engine.specs.Lent.{Lent, lent}
 use Rattle.readback.specs.StartsRead.{ReadBackAsks}
-use Rattle.engine.specs.steps.OneMore.{more-of, one-job}
-use Rattle.rule.proofs.Value.{split-below}
 use Rattle.readback.proofs.StartsRead.{asks-fewer, back-found, back-empty}
 use Rattle.readback.proofs.read_back.Reads as read-back
 use Rattle.readback.proofs.read_back.Kinds as read-back-kinds
@@ -62,17 +60,16 @@ module _ (t : ℕ) where
     readable : (k : ℕ) → k ≤ left → ReadBackAsks given (now (start .args .table)) k
     readable k h = asks-fewer (start .pre .1 .0) k (omega (arith, few))
 
-  -- the split is no later than the end of the span
-  split-there : (c : read-back-lts.After-split-of (calls t) (read-back-at t) read-back.Post)
-      → c .split-of .result < start (c .before) .args .shape .points
-  split-there c =
-      let e = c .before in
-      omega (
-        arith,
-        c .split-of .ensures,
-        split-below (one-job (more-of (given e) (left e - 1)) (now (start e .args .table))) 0 (start e .args .from) (start e .args .to),
-        start e .pre .1 .1,
-      )
+    room : left ≤ length (now (start .args .starts))
+    room = omega (arith, few, start .pre .1 .1 .0)
+
+  -- where it splits the span
+  module _ (d : read-back-lts.After-struct-known (calls t) (read-back-at t) read-back.Post) where
+    abbrev point : ℕ
+    point = d .before .split-of .result .point
+
+    point-there : point < start (d .before .before) .args .shape .points
+    point-there = omega (arith, d .before .split-of .ensures .inside, start (d .before .before) .pre .1 .1 .0)
 
   up-to-inside-requires : read-back-lts.Need-up-to-inside-requires (calls t) (read-back-at t) read-back.Post
   up-to-inside-requires c κs = c .before .before .before .before .before .before .pre .1 .0 .prepared .releases
@@ -84,55 +81,60 @@ module _ (t : ℕ) where
   sub-job c = omega arith
 
   split-of-requires : read-back-lts.Need-split-of-requires (calls t) (read-back-at t) read-back.Post
-  split-of-requires c κs =
-      (readable c (left c - 1 + 1) (omega arith), (released c .0, released c .1, start c .pre .1 .1 .0))
+  split-of-requires c κs = (readable c (left c - 1 + 1) (omega arith), (released c .0, released c .1, start c .pre .1 .1 .0 .0))
 
   cast-starts : read-back-lts.Need-cast-starts (calls t) (read-back-at t) read-back.Post
-  cast-starts c = omega (arith, split-there c, start (c .before) .pre .1 .0 .few-points)
+  cast-starts d = omega (arith, point-there d, start (d .before .before) .pre .1 .0 .few-points)
 
   mul-starts : read-back-lts.Need-mul-starts (calls t) (read-back-at t) read-back.Post
-  mul-starts c = omega (arith, start (c .before) .pre .1 .1, few (c .before))
+  mul-starts d = omega (arith, room (d .before .before))
 
   slice-write-starts : read-back-lts.Need-slice-write-starts (calls t) (read-back-at t) read-back.Post
-  slice-write-starts c = omega (arith, start (c .before) .pre .1 .1, few (c .before), counted (c .before))
+  slice-write-starts d = omega (arith, room (d .before .before), counted (d .before .before))
 
   read-back-requires : read-back-lts.Need-read-back-requires (calls t) (read-back-at t) read-back.Post
   read-back-requires c κs =
-      let e = c .before .before in (
+      let e = c .before .before .before in (
         omega (arith, counted e, few e),
         (
           readable e (left e - 1) (omega arith),
-          (omega (arith, split-there (c .before), released e, start e .pre .1 .1), simp length-set (omega (arith, start e .pre .1 .1, few e))),
+          ((point-there (c .before), simp length-set (omega (arith, room e))), c .before .before .split-of .ensures .sides .left),
         ),
       )
 
   add-read-back : read-back-lts.Need-add-read-back (calls t) (read-back-at t) read-back.Post
-  add-read-back c = omega (arith, split-there (c .before .before .before .before), start (c .before .before .before .before .before) .pre .1 .0 .few-points)
+  add-read-back c =
+      let d = c .before .before .before .before .before in omega (arith, point-there d, start (d .before .before) .pre .1 .0 .few-points)
 
   read-back-requires-2 : read-back-lts.Need-read-back-requires-2 (calls t) (read-back-at t) read-back.Post
   read-back-requires-2 c κs =
-      let e = c .before .before .before .before .before .before in (
+      let e = c .before .before .before .before .before .before .before .before in (
         omega (arith, counted e, few e),
         (
           readable e (left e - 1) (omega arith),
           (
-            start e .pre .1 .1 .0,
-            omega (arith, start e .pre .1 .1, few e, simp length-set at (c .before .before .before .read-back .ensures .0)),
+            (
+              start e .pre .1 .1 .0 .0,
+              omega (arith, room e, simp length-set at (c .before .before .before .before .read-back .ensures .0)),
+            ),
+            c .before .before .before .before .before .before .before .split-of .ensures .sides .right,
           ),
         ),
       )
 
   same-length : read-back-lts.Need-same-length (calls t) (read-back-at t) read-back.Post
-  same-length c = c .before .before .read-back2 .ensures .0 ∙ c .before .before .before .before .before .before .read-back .ensures .0 ∙ simp length-set
+  same-length c =
+      c .before .before .read-back2 .ensures .0 ∙ c .before .before .before .before .before .before .before .read-back .ensures .0 ∙ simp length-set
 
   returns-2 : read-back-lts.Need-returns-2 (calls t) (read-back-at t) read-back.Post
   returns-2 c =
-      let e = c .before .before .before .before .before .before .before .before .before in
-      let above = e .before .up-to-inside .ensures in (
+      let d = c .before .before .before .before .before .before .before .before .before .before in
+      let e = d .before in (
         same-length c,
-        λ P holds. back-found holds (left e - 1) (omega (arith, counted e, few e)) (λ i h. above .higher i (omega (arith, counted e)))
-            (released e) (c .before .before .before .before .before .before .before .before .split-of .result) (c .before .before .before .before .before .before .before .before .split-of .ensures) _ _ _
-            (omega (arith, start e .pre .1 .1, few e, counted e)) (c .before .before .before .before .before .before .read-back .ensures .1 P) (c .before .before .read-back2 .ensures .1 P),
+        λ P holds. back-found holds (left e - 1) (omega (arith, counted e, few e))
+            (λ i h. e .before .up-to-inside .ensures .higher i (omega (arith, counted e))) (released e) (start e .args .value) (start e .pre .1 .1 .1)
+            (d .split-of .result .point) (d .split-of .ensures .best) _ _ _ (omega (arith, room e, counted e))
+            (c .before .before .before .before .before .before .before .read-back .ensures .1 P) (c .before .before .read-back2 .ensures .1 P),
       )
 
 pub +read-back-spec : {M : Type 1} → statement M

@@ -1,104 +1,119 @@
--- `readback::latest_best` meets its contract: what is found is the latest best split of the points passed. Assumes nothing.
+-- `readback::latest_best` meets its contract: no place after those that are left has the sum. Assumes nothing.
 use Prim.Native.Nat.{ℕ, _+_, _-_, _≤_, _<_}
 use mathlib.Core.Path.{_≡_}
 use mathlib.Core.Logic.{⊎-elim}
 use native.Mathlib.Omega.{arith}
 use denote.Ref.{now}
-use Rattle.rule.specs.Span.{Problem}
-use Rattle.engine.specs.Places.{SpanIn}
-use Rattle.engine.specs.steps.OneMore.{OneMore, one-more, layout-for, one-job}
+use Rattle.engine.specs.steps.OneMore.{OneMore, one-more, one-job}
 use borrow.Author.Needs.{needs}
-use Rattle.engine.proofs.OneJob.{splits-marked, splits-unmarked}
-use Rattle.engine.proofs.Level.{span-there}
-use Rattle.readback.proofs.Split.{sides-read, Searched, searched-none, searched-unsplit, searched-tie, searched-more, searched-split}
+use Rattle.engine.proofs.Level.{SpanThere, span-there}
+use Rattle.readback.proofs.Search.{NoLater, none-later, unmarked-passed, other-passed, first-found, release-found}
 use Rattle.readback.proofs.latest_best.Statement.{statement}
 use Rattle.readback.proofs.latest_best.Tie as tie
 
 abbrev Inv-loop : tie.InvT-loop
-Inv-loop shape begins marks table job release deadline from to end least₀ found₀ point₀ least found point = (release ≤ point) × (point ≤ end) × Searched
-    (one-job (one-more shape begins marks job release deadline) table) from to point least found
+Inv-loop shape begins marks table job release deadline from to value point₀ point = (release ≤ point) × (point < deadline) × (point < to) × NoLater
+    (one-job (one-more shape begins marks job release deadline) table) from to value point
 
 abbrev μ-loop : tie.MeasureT-loop
-μ-loop shape begins marks table job release deadline from to end least₀ found₀ point₀ least found point = end - point
+μ-loop shape begins marks table job release deadline from to value point₀ point = point
 
 abbrev given : tie.Start Inv-loop μ-loop → OneMore
 given start =
     one-more (start .args .shape) (now (start .args .begins)) (now (start .args .marks)) (start .args .job) (start .args .release)
     (start .args .deadline)
 
+-- a place of the span from the release on
+module _ (start : tie.Start Inv-loop μ-loop) (point : ℕ) (within : (start .args .release ≤ point) × (point < start .args .to)) where
+  left-there : SpanThere (given start) (now (start .args .table)) (start .args .from) point
+  left-there = span-there (start .pre .0) (start .args .from) point (omega (arith, start .pre .1, within), omega (arith, start .pre .1, within))
+
+  right-there : SpanThere (given start) (now (start .args .table)) (point + 1) (start .args .to)
+  right-there = span-there (start .pre .0) (point + 1) (start .args .to) (omega (arith, within), start .pre .1 .2)
+
+sub-point : tie.Need-sub-point Inv-loop μ-loop
+sub-point c =
+    let start = c .before .before .before .before in
+    omega (arith, c .lesser .ensures, start .pre .0 .window, start .pre .1)
+
 loop-holds : tie.Need-loop-holds Inv-loop μ-loop
 loop-holds c =
-    let start = c .before .before .before .before in (
-      omega arith,
-      omega (arith, start .pre .0 .window, start .pre .1),
-      searched-none (one-job (given start) (now (start .args .table))) (start .args .from) (start .args .to),
+    let start = c .before .before .before .before in
+    let less = c .lesser .ensures in (
+      omega (arith, less, start .pre .0 .window, start .pre .1),
+      omega (arith, less, start .pre .0 .window),
+      omega (arith, less, start .pre .1),
+      none-later _ (start .args .from) (start .args .to) (start .args .value) _ (omega (arith, less, start .pre .0 .window, start .pre .1)),
     )
 
 wide-at-requires : tie.Need-wide-at-requires Inv-loop μ-loop
 wide-at-requires c κs =
-    let start = c .before .before .before .before .before .before in omega (arith, start .pre .0 .marked, start .pre .0 .before-end)
+    let start = c .before .before .before .before .before .before in
+    omega (arith, start .pre .0 .marked, start .pre .0 .before-end, c .before .loop .inv .1)
 
--- within the loop, each fact by itself, which keeps the check small
-module _ (c : tie.After-wide-at Inv-loop μ-loop) where
-  abbrev start : tie.Start Inv-loop μ-loop
-  start = c .before .before .before .before .before .before .before
+split-at-requires : tie.Need-split-at-requires Inv-loop μ-loop
+split-at-requires c κs =
+    let start = c .before .before .before .before .before .before .before .before in
+    let loop = c .before .before .before .loop in
+    let left = left-there start (loop .point) (loop .inv .0, loop .inv .2) in
+    let right = right-there start (loop .point) (loop .inv .0, loop .inv .2) in
+    ((left .begun, right .begun), (left .there, right .there))
 
-  abbrev P : Problem
-  P = one-job (given start) (now (start .args .table))
-
-  abbrev point : ℕ
-  point = c .before .before .loop .point
-
-  within : point < start .args .deadline
-  within = omega arith
-
-  left-span : SpanIn (layout-for (given start)) (start .args .from) point
-  left-span = (omega (arith, start .pre .1), omega (arith, start .pre .1))
-
-  right-span : SpanIn (layout-for (given start)) (point + 1) (start .args .to)
-  right-span = (omega arith, start .pre .1 .2)
-
-sum-of-sides-requires : tie.Need-sum-of-sides-requires Inv-loop μ-loop
-sum-of-sides-requires c κs =
-    let e = c .before in
-    let a = start e .args in
-    let left = span-there (start e .pre .0) (a .from) (point e) (left-span e) in
-    let right = span-there (start e .pre .0) (point e + 1) (a .to) (right-span e) in
-    ((left .begun, right .begun), ((left .there, right .there), omega (arith, left .small, right .small)))
-
-loop-again : tie.Need-loop-again Inv-loop μ-loop
-loop-again c =
-    let e = c .before in
-    let a = start e .args in
-    let l = e .before .before .loop in
-    let may = splits-marked (given (start e)) (now (a .table)) (point e) (l .inv .0) (within e) in
-    let sum = sides-read (given (start e)) (now (a .table)) (a .from) (point e) (a .to) in (
-      omega arith,
-      omega arith,
-      ⊎-elim
-          (λ w.
-          rw (w .3, w .4)
-          (searched-tie (P e) (a .from) (a .to) (point e) (l .least) (l .found) (l .inv .2)
-          (may (omega (arith, e .wide-at .ensures, w .0 .taken))) _ (sum _ (w .1 .ensures)) (omega (arith, w .2 .taken))))
-          (⊎-elim
-          (λ w.
-          rw (w .3, w .4)
-          (searched-more (P e) (a .from) (a .to) (point e) (l .least) (l .found) (l .inv .2)
-          (may (omega (arith, e .wide-at .ensures, w .0 .taken))) _ (sum _ (w .1 .ensures)) (omega (arith, w .2 .left))))
-          (λ w.
-          rw (w .1, w .2)
-          (searched-unsplit (P e) (a .from) (a .to) (point e) (l .least) (l .found) (l .inv .2)
-          (splits-unmarked (given (start e)) (now (a .table)) (point e) (omega (arith, e .wide-at .ensures, w .0 .left))))))
-          (c .if1 .came),
+add-if2 : tie.Need-add-if2 Inv-loop μ-loop
+add-if2 c =
+    let start = c .before .before .before .before .before .before .before .before .before .before in
+    let loop = c .before .before .before .before .before .loop in
+    let found = c .before .split-at .ensures in
+    omega (
+      arith,
+      rw (found .0) at (found .1 .left),
+      rw (found .0) at (found .1 .right),
+      left-there start (loop .point) (loop .inv .0, loop .inv .2) .small,
+      right-there start (loop .point) (loop .inv .0, loop .inv .2) .small,
     )
 
 returns : tie.Need-returns Inv-loop μ-loop
 returns c =
+    let start = c .before .before .before .before .before .before .before .before .before .before .before in
+    let loop = c .before .before .before .before .before .before .loop in
+    let found = c .before .before .split-at .ensures in
+    first-found (given start) (now (start .args .table)) (start .args .from) (start .args .to) (start .args .value) _ (found .1)
+    (start .pre .1 .0, start .pre .1 .1) (rw (← found .0) at (loop .inv .3)) (omega (arith, found .0, loop .inv .0))
+    (omega (arith, found .0, loop .inv .1)) (omega (arith, found .0, loop .inv .2))
+    (rw (found .0) (omega (arith, c .before .before .before .before .wide-at .ensures, c .before .before .before .if1 .taken))) (c .if2 .taken)
+
+loop-again : tie.Need-loop-again Inv-loop μ-loop
+loop-again c =
+    let start = c .before .before .before .before .before .before .before .before in
+    let loop = c .before .before .before .loop in (
+      omega arith,
+      omega (arith, loop .inv .1),
+      omega (arith, loop .inv .2),
+      ⊎-elim
+          (λ w.
+          rw (w .1 .ensures .0) at
+          (other-passed (given start) (now (start .args .table)) (start .args .from) (start .args .to) (start .args .value) _ (w .1 .ensures .1)
+          (w .3 .left) (rw (← w .1 .ensures .0) at (loop .inv .3))))
+          (λ w.
+          unmarked-passed (given start) (now (start .args .table)) (start .args .from) (start .args .to) (start .args .value) (loop .point)
+          (omega (arith, c .before .wide-at .ensures, w .left)) (loop .inv .3))
+          (c .if1 .came),
+    )
+
+split-at-requires-2 : tie.Need-split-at-requires-2 Inv-loop μ-loop
+split-at-requires-2 c κs =
     let start = c .before .before .before .before .before .before in
-    let a = start .args in
-    let e : c .before .loop .point ≡ c .before .before .lesser .result = omega arith in
-    searched-split (one-job (given start) (now (a .table))) (a .from) (a .to) (c .before .before .lesser .result) (c .before .loop .least)
-    (c .before .loop .found) (c .before .before .lesser .ensures) (start .pre .1 .0, start .pre .1 .1) (rw e at (c .before .loop .inv .2))
+    let left = left-there start (start .args .release) (omega arith, start .pre .1 .1) in
+    let right = right-there start (start .args .release) (omega arith, start .pre .1 .1) in
+    ((left .begun, right .begun), (left .there, right .there))
+
+returns-2 : tie.Need-returns-2 Inv-loop μ-loop
+returns-2 c =
+    let start = c .before .before .before .before .before .before .before in
+    let found = c .split-at2 .ensures in
+    let last : c .before .before .loop .point ≡ c .split-at2 .result .point = omega (arith, found .0, c .before .before .loop .inv .0) in
+    release-found (given start) (now (start .args .table)) (start .args .from) (start .args .to) (start .args .value) _ (found .1)
+    (start .pre .1 .0, start .pre .1 .1) (rw last at (c .before .before .loop .inv .3)) (found .0)
 
 pub latest-best-spec : {M : Type 1} → statement M
 latest-best-spec =
@@ -107,10 +122,14 @@ latest-best-spec =
     Inv-loop
     μ-loop
     (λ c κs. search needs)
+    sub-point
     loop-holds
     wide-at-requires
-    sum-of-sides-requires
+    split-at-requires
+    add-if2
+    returns
     (λ c. omega arith)
     (λ c. omega arith)
     loop-again
-    returns)
+    split-at-requires-2
+    returns-2)
