@@ -7,7 +7,7 @@
  *   Start: the slot that a job fills. The starts of a plan stand in row order, one for each job.
  *   Proper: a plan in which each job starts in its window, and no two in the same slot.
  *   Gap: a longest run of empty slots with a job somewhere before it and one after it. Before the first job and after the last there is none.
- *   Price of a gap of g slots: the smaller of g and wake. With g < wake the machine is awake, with g >= wake it is asleep.
+ *   Price of a gap of g slots: the smaller of g and wake. With g <= wake the machine is awake, with g > wake it is asleep.
  *   Cost of a plan: the sum over its gaps. Without jobs it is 0.
  *   Number: jobs are numbered by deadline, equal deadlines by row.
  *   Tie rule: of the cheapest proper plans the one whose highest-numbered job starts latest; among those, whose next highest starts latest; and

@@ -5,7 +5,7 @@ use mathlib.Core.Bool.{Bool, true, false}
 use mathlib.Core.List.{List, [], _∷_}
 use native.Mathlib.Omega.{arith}
 use native.Mathlib.Nat.{min-zero, min-le-left, min-le-right, min-eq-left, min-eq-right, le-of-lt}
-use borrow.Author.Tests.{leb-true, leb-false}
+use borrow.Author.Tests.{ltb-true, ltb-false, lt-ltb, le-ltb}
 use Rattle.day.specs.declared.Power.{Power}
 use Rattle.day.specs.declared.Day.{Day}
 use Rattle.day.specs.Plan.{Plan, taken}
@@ -32,13 +32,28 @@ pub price-long : (power : Power) (g : ℕ) → power .wake ≤ g → price power
 unfolding price
 price-long power g l = min-eq-left l
 
+-- a gap of at most a wake costs its length
+pub price-short : (power : Power) (g : ℕ) → g ≤ power .wake → price power g ≡ g
+unfolding price
+price-short power g l = min-eq-right l
+
+-- and of sleep: a gap is asleep exactly if it is longer than a wake
+
+pub asleep-long : (power : Power) (g : ℕ) → power .wake < g → asleep power g ≡ true
+unfolding asleep
+asleep-long power g l = lt-ltb (power .wake) g l
+
+pub awake-short : (power : Power) (g : ℕ) → g ≤ power .wake → asleep power g ≡ false
+unfolding asleep
+awake-short power g l = le-ltb (power .wake) g l
+
 pub price-asleep : (power : Power) (g : ℕ) → asleep power g ≡ true → price power g ≡ power .wake
 unfolding asleep
-price-asleep power g h = price-long power g (leb-true (power .wake) g h)
+price-asleep power g h = price-long power g (le-of-lt (ltb-true (power .wake) g h))
 
 pub price-awake : (power : Power) (g : ℕ) → asleep power g ≡ false → price power g ≡ g
-unfolding price asleep
-price-awake power g h = min-eq-right (le-of-lt (leb-false (power .wake) g h))
+unfolding asleep
+price-awake power g h = price-short power g (ltb-false (power .wake) g h)
 
 -- the clauses of the definitions
 

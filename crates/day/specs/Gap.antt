@@ -3,7 +3,7 @@ use Prim.Native.Nat.{ℕ, zero, suc, _+_, _≤_, _<_, min}
 use mathlib.Core.Path.{_≡_}
 use mathlib.Core.Bool.{Bool, true, false, cond}
 use mathlib.Core.List.{List, [], _∷_}
-use lib.Dec.{leb}
+use lib.Dec.{ltb}
 use Rattle.day.specs.declared.Power.{Power}
 use Rattle.day.specs.declared.Day.{Day}
 use Rattle.day.specs.Plan.{Plan, taken}
@@ -35,9 +35,9 @@ pub data Listed (full : ℕ → Bool) (slots : ℕ) : ℕ → List ℕ → Type 
 unfoldable pub price : Power → ℕ → ℕ
 price power g = min (power .wake) g
 
--- whether the machine sleeps through a gap of g slots
+-- whether the machine sleeps through a gap of g slots: only where that costs less than to stay awake
 unfoldable pub asleep : Power → ℕ → Bool
-asleep power g = leb (power .wake) g
+asleep power g = ltb (power .wake) g
 
 -- The gaps are listed by a walk over the slots; proofs/GapRuns.antt shows that it lists the gaps and nothing else.
 

@@ -9,6 +9,7 @@ use Rattle.demands.proofs.Mirrored.{mirrored-accepted, mirrored-answer}
 use Rattle.demands.proofs.Moving.{moved-accepted, moving-keeps}
 use Rattle.demands.proofs.MovingEnds.{leaves-at-ends, moves-at-ends}
 use Rattle.demands.proofs.Ledger.{ledger-balances, ledger-outer, row-shown}
+use Rattle.demands.proofs.GapOfWake.{gap-shown, ledger-by-both, slot-by-both, cost-by-both}
 use Rattle.demands.proofs.FieldDay.{opened-passes, after-passes, done-keeps-slot, advance-no-dearer}
 use Rattle.demands.proofs.Added.{add-admitted, adds-best-or-none, adds-seven}
 use Rattle.demands.proofs.Offered.{offer-no-dearer, offer-taken}
@@ -45,6 +46,10 @@ demands =
       ledger = ledger-balances;
       outer-slots = ledger-outer;
       row-shown = row-shown;
+      gap-shown = gap-shown;
+      ledger-by-both = ledger-by-both;
+      slot-by-both = slot-by-both;
+      cost-by-both = cost-by-both;
       opened-passes = opened-passes;
       after-passes = after-passes;
       done-keeps-slot = done-keeps-slot;

@@ -172,7 +172,7 @@ abbrev rows-and-counts : (day : Day) (w : Windows) (starts : List ℕ) (o : Outc
     × ((o .answer .code ≡ done → ⊥) → o ≡ no-outcome (o .answer)))
 rows-and-counts day w starts o =
     by-equal (o .answer .code) done
-    (both (equal (o .count) (w .count)) (ledger-test day w starts (record { answer = says done 0 0; counts = o .counts })))
+    (both (equal (o .count) (w .count)) (ledger-test (asleep (day .power)) day w starts (record { answer = says done 0 0; counts = o .counts })))
     (through (λ t. nothing-planned o (t .0) (t .1)) (both (equal (o .count) 0) (same-counts (o .counts) no-counts)))
 
 abbrev reported : {Check : Answer → Type 0} → Judge Check → (day : Day) (w : Windows) (starts table : List ℕ) (o : Outcome) (starts-after table-after : List ℕ)

@@ -7,10 +7,10 @@ use mathlib.Core.Logic.{_⊎_, ⊎-elim}
 use native.Mathlib.Omega.{arith}
 use lib.Dec.{eqb}
 use Rattle.day.specs.declared.Day.{Day}
-use Rattle.day.specs.declared.Power.{Power}
 use Rattle.day.specs.Windows.{Windows}
 use Rattle.day.specs.Gap.{asleep}
 use Rattle.checks.specs.Answer.{done}
+use Rattle.checks.specs.Check.{ListCheck}
 use Rattle.claim.specs.Rows.{row-at, holds-job}
 use Rattle.rule.specs.Extreme.{latest}
 use Rattle.ledger.specs.declared.Fill.{Fill}
@@ -19,12 +19,13 @@ use Rattle.ledger.specs.declared.Counts.{Counts}
 use Rattle.ledger.specs.declared.LedgerAnswer.{LedgerAnswer}
 use Rattle.ledger.specs.declared.SlotFill.{SlotFill}
 use Rattle.ledger.specs.declared.SlotAnswer.{SlotAnswer}
+use Rattle.ledger.specs.Sleep.{SleepTest}
 use Rattle.ledger.specs.Fills.{Empty, InGap, Fills, by-job, before-first, after-last, in-awake, in-asleep}
 use Rattle.ledger.specs.Count.{counted-none, counted-as, Counted}
-use Rattle.ledger.specs.Promise.{plan-row, no-counts, no-slot, LedgerPromise}
+use Rattle.ledger.specs.Promise.{plan-row, no-counts, no-slot, LedgeredBy, ShownBy}
 use Rattle.ledger.proofs.InGap.{in-gap}
-use Rattle.ledger.proofs.CountedAs.{gain, CountedTo, counted-to-end, counted-block}
-use Rattle.demands.specs.ExamplesOfLedger.{ledger-examples, LedgerExamplesHold, Asked, FilledAs, slot-examples, SlotExamplesHold}
+use Rattle.ledger.proofs.CountedAs.{gain, CountedTo, counted-to-end, counts-as, counted-block}
+use Rattle.demands.specs.ExamplesOfLedger.{ledger-examples, LedgerExamplesHold, Asked, slot-examples, SlotExamplesHold}
 use Rattle.demands.proofs.Test.{
   Test,
   less,
@@ -56,7 +57,7 @@ abbrev next-job : (ℕ → ℕ) → ℕ → ℕ → ℕ
 next-job row t zero = t
 next-job row t (suc m) = cond (holds-job row t) t (next-job row (suc t) m)
 
-module _ (power : Power) (slots : ℕ) (row : ℕ → ℕ) where
+module _ (test : SleepTest) (slots : ℕ) (row : ℕ → ℕ) where
   abbrev next-after : ℕ → ℕ
   next-after t = next-job row (suc t) (slots - suc t)
 
@@ -69,14 +70,14 @@ module _ (power : Power) (slots : ℕ) (row : ℕ → ℕ) where
   fill-at t =
       cond (holds-job row t) (Job (row t))
       (cond (eqb (row (last-job row t)) 0) Before
-      (cond (eqb (next-after t) slots) After (cond (asleep power (gap-around t)) Asleep Awake)))
+      (cond (eqb (next-after t) slots) After (cond (test (gap-around t)) Asleep Awake)))
 
   abbrev empty-between : (lo hi : ℕ) → Test ((u : ℕ) → lo < u → u < hi → Empty row u)
   empty-between lo hi =
       through (λ f u a b. ⊎-elim (λ h. absurd (omega arith)) (λ h. h) (f u b))
       (all-below {P = λ u. (u ≤ lo) ⊎ Empty row u} (λ u. either (at-most u lo) (equal (row u) 0)) hi)
 
-  abbrev gap-test : (t last g : ℕ) → Test (InGap slots row t g)
+  abbrev pub gap-test : (t last g : ℕ) → Test (InGap slots row t g)
   gap-test t last g =
       through
       (λ f.
@@ -94,16 +95,16 @@ module _ (power : Power) (slots : ℕ) (row : ℕ → ℕ) where
       (both (empty-between last (suc (last + g)))
       (both (at-most t (last + g)) (both (differ (row (last + g + 1)) 0) (less (last + g + 1) slots)))))
 
-  abbrev fills : (t : ℕ) (f : Fill) → Test (Fills power slots row t f)
+  abbrev fills : (t : ℕ) (f : Fill) → Test (Fills test slots row t f)
   fills t (Job r) = through (λ f. rw (f .0) (by-job (f .1))) (both (equal r (row t)) (differ (row t) 0))
   fills t Before =
       through (λ f. before-first (λ u l. f u (omega arith))) (all-below {P = Empty row} (λ u. equal (row u) 0) (suc t))
   fills t Awake =
       through (λ f. in-awake (gap-around t) (f .0) (f .1))
-      (both (gap-test t (last-job row t) (gap-around t)) (is-false (asleep power (gap-around t))))
+      (both (gap-test t (last-job row t) (gap-around t)) (is-false (test (gap-around t))))
   fills t Asleep =
       through (λ f. in-asleep (gap-around t) (f .0) (f .1))
-      (both (gap-test t (last-job row t) (gap-around t)) (is-true (asleep power (gap-around t))))
+      (both (gap-test t (last-job row t) (gap-around t)) (is-true (test (gap-around t))))
   fills t After =
       through (λ f. after-last (last-job row t) (f .0) (f .1 .0) (f .1 .1))
       (both (less (last-job row t) t) (both (differ (row (last-job row t)) 0) (empty-between (last-job row t) slots)))
@@ -118,12 +119,12 @@ module _ (power : Power) (slots : ℕ) (row : ℕ → ℕ) where
     tally m =
         record { before = tally-in 0 m; job = tally-in 1 m; awake = tally-in 2 m; asleep = tally-in 3 m; after = tally-in 4 m }
 
-    pub tally-counts : ((t : ℕ) → t < slots → Fills power slots row t (fill t)) → (m : ℕ) → m ≤ slots
-        → CountedTo power slots row m (tally m)
+    pub tally-counts : ((t : ℕ) → t < slots → Fills test slots row t (fill t)) → (m : ℕ) → m ≤ slots
+        → CountedTo test slots row m (tally m)
     tally-counts right zero l = record { before = counted-none; job = counted-none; awake = counted-none; asleep = counted-none; after = counted-none }
     tally-counts right (suc m) l =
         counted-block (counted-as (fill m)) 1 (suc m) (omega arith) l
-        (λ u h b. let here : u ≡ m = omega arith in rw here (record { fill = fill m; fills = right m (omega arith); here = refl }))
+        (λ u h b. let here : u ≡ m = omega arith in rw here (counts-as (right m (omega arith))))
         (tally-counts right m (omega arith)) refl refl refl refl refl
 
 abbrev pub same-counts : (c d : Counts) → Test (c ≡ d)
@@ -133,17 +134,18 @@ same-counts c d =
     (both (equal (c .job) (d .job))
     (both (equal (c .awake) (d .awake)) (both (equal (c .asleep) (d .asleep)) (equal (c .after) (d .after))))))
 
-abbrev counted : (power : Power) (slots : ℕ) (row : ℕ → ℕ) (c : Counts) → Test (Counted power slots row c)
-counted power slots row c =
-    through (λ f. rw (f .1) (counted-to-end (tally-counts power slots row (fill-at power slots row) (f .0) slots (omega arith))))
-    (both (all-below (λ t. fills power slots row t (fill-at power slots row t)) slots)
-    (same-counts c (tally power slots row (fill-at power slots row) slots)))
+abbrev counted : (test : SleepTest) (slots : ℕ) (row : ℕ → ℕ) (c : Counts) → Test (Counted test slots row c)
+counted test slots row c =
+    through (λ f. rw (f .1) (counted-to-end (tally-counts test slots row (fill-at test slots row) (f .0) slots (omega arith))))
+    (both (all-below (λ t. fills test slots row t (fill-at test slots row t)) slots)
+    (same-counts c (tally test slots row (fill-at test slots row) slots)))
 
-abbrev pub ledger-test : (day : Day) (w : Windows) (starts : List ℕ) (answered : LedgerAnswer) → Test (LedgerPromise day w starts answered)
-ledger-test day w starts answered =
+abbrev pub ledger-test : (test : SleepTest) (day : Day) (w : Windows) (starts : List ℕ) (answered : LedgerAnswer)
+    → Test (LedgeredBy test (ListCheck day w) day w starts answered)
+ledger-test test day w starts answered =
     through (λ f. record { answer = f .0; accepted = f .1 .0; refused = f .1 .1 })
     (both (answers (judge-claim day w starts) passed (answered .answer))
-    (by-equal (answered .answer .code) done (counted (day .power) (day .slots) (plan-row w starts) (answered .counts))
+    (by-equal (answered .answer .code) done (counted test (day .slots) (plan-row w starts) (answered .counts))
     (same-counts (answered .counts) no-counts)))
 
 pub ledger-examples-hold : LedgerExamplesHold
@@ -151,11 +153,11 @@ unfolding ledger-examples gain latest holds-job row-at asleep
 ledger-examples-hold =
     all-in
     (shown-test (λ claim. one-outcome .ledger (claim .day) (claim .rows) (claim .starts))
-    (λ claim. ledger-test (claim .day) (claim .rows) (claim .starts)))
+    (λ claim. ledger-test (asleep (claim .day .power)) (claim .day) (claim .rows) (claim .starts)))
     ledger-examples .shows
     refl
 
-same-slot : (a b : SlotFill) → a .slot ≡ b .slot → a .fill ≡ b .fill → a ≡ b
+pub same-slot : (a b : SlotFill) → a .slot ≡ b .slot → a .fill ≡ b .fill → a ≡ b
 same-slot a b p q = rw (p, q)
 
 abbrev is-before : (f : Fill) → Test (f ≡ Before)
@@ -165,15 +167,16 @@ is-before Awake = fails
 is-before Asleep = fails
 is-before After = fails
 
-abbrev slot-test : (asked : Asked) (shown : SlotAnswer) → Test (FilledAs asked shown)
-slot-test asked shown =
+abbrev pub slot-test : (test : SleepTest) (asked : Asked) (shown : SlotAnswer)
+    → Test (ShownBy test (ListCheck (asked .claim .day) (asked .claim .rows)) (asked .claim .day) (asked .claim .rows) (asked .claim .starts) (asked .slot) shown)
+slot-test test asked shown =
     through (λ f. record { answer = f .0; slot = λ e. f .1 .0 e .0; fill = λ e. f .1 .0 e .1; refused = f .1 .1 })
     (both
     (answers (judge-claim (asked .claim .day) (asked .claim .rows) (asked .claim .starts))
     (answers (judge-whole _ (is-at-most (asked .claim .day .slots) (asked .slot))) passed) (shown .answer))
     (by-equal (shown .answer .code) done
     (both (equal (shown .held .slot) (asked .slot))
-    (fills (asked .claim .day .power) (asked .claim .day .slots) (plan-row (asked .claim .rows) (asked .claim .starts)) (asked .slot) (shown .held .fill)))
+    (fills test (asked .claim .day .slots) (plan-row (asked .claim .rows) (asked .claim .starts)) (asked .slot) (shown .held .fill)))
     (through (λ f. same-slot (shown .held) no-slot (f .0) (f .1))
     (both (equal (shown .held .slot) 0) (is-before (shown .held .fill))))))
 
@@ -181,6 +184,7 @@ pub slot-examples-hold : SlotExamplesHold
 unfolding slot-examples latest holds-job row-at asleep
 slot-examples-hold =
     all-in
-    (shown-test (λ asked. one-outcome .slot (asked .claim .day) (asked .claim .rows) (asked .claim .starts) (asked .slot)) slot-test)
+    (shown-test (λ asked. one-outcome .slot (asked .claim .day) (asked .claim .rows) (asked .claim .starts) (asked .slot))
+    (λ asked. slot-test (asleep (asked .claim .day .power)) asked))
     slot-examples .shows
     refl

@@ -6,6 +6,7 @@ use native.Mathlib.Omega.{arith}
 use Rattle.checks.specs.declared.Answer.{Answer}
 use Rattle.day.specs.declared.Day.{Day}
 use Rattle.day.specs.Windows.{Windows, at}
+use Rattle.day.specs.Gap.{asleep}
 use Rattle.checks.specs.Answer.{done}
 use Rattle.checks.specs.Refusal.{_then_}
 use Rattle.checks.specs.Check.{ListCheck, Accepted}
@@ -16,23 +17,30 @@ use Rattle.checks.proofs.Check.{list-is-check, clear-accepted}
 use Rattle.claim.specs.Claim.{Fit, ClaimCheck}
 use Rattle.claim.proofs.Claim.{claim-is-check, clear-fit, fit-below}
 use Rattle.claim.proofs.Rows.{row-at-own, row-at-taken, holds-job-true}
+use Rattle.ledger.specs.declared.Counts.{Counts}
+use Rattle.ledger.specs.Sleep.{SleepTest}
 use Rattle.ledger.specs.Fills.{Busy}
+use Rattle.ledger.specs.Count.{Counted}
 use Rattle.ledger.specs.Promise.{plan-row}
 use Rattle.ledger.proofs.CountedAs.{five-add-up}
-use Rattle.ledger.proofs.Cost.{cost-of-ledger}
+use Rattle.ledger.proofs.Cost.{PaysPrice, asleep-pays, cost-of-ledger}
 use Rattle.ledger.proofs.Fills.{not-busy, fills-unique}
 use Rattle.ledger.proofs.Outer.{before-first-job, after-last-job, no-jobs}
 use Rattle.ledger.proofs.Fills.{row-fills}
-use Rattle.demands.specs.Ledger.{LedgerBalances, LedgerOuter, RowShown}
+use Rattle.demands.specs.Ledger.{Balanced, LedgerBalances, LedgerOuter, RowShown}
+
+-- counts by any sleep test that pays the price
+pub balanced : (test : SleepTest) (day : Day) (w : Windows) (starts : List ℕ) (counts : Counts) → PaysPrice (day .power) test
+    → Counted test (day .slots) (plan-row w starts) counts → Balanced test day w starts counts
+balanced test day w starts counts pays counted =
+    record {
+      slots = five-add-up test (day .slots) (plan-row w starts) counts counted;
+      cost = cost-of-ledger day (w .count) (at starts) counts pays counted;
+    }
 
 pub ledger-balances : LedgerBalances
 ledger-balances day w starts ledger promised code =
-    give (promised .accepted code)
-    (λ counted.
-    record {
-      slots = five-add-up (day .power) (day .slots) (plan-row w starts) (ledger .counts) counted;
-      cost = cost-of-ledger day (w .count) (at starts) (ledger .counts) counted;
-    })
+    balanced (asleep (day .power)) day w starts (ledger .counts) (asleep-pays (day .power)) (promised .accepted code)
 
 -- what code 0 tells of a claimed plan
 module _ (day : Day) (w : Windows) (starts : List ℕ) {Next : Answer → Type 0} {a : Answer}
@@ -60,7 +68,7 @@ ledger-outer day w starts ledger promised code =
     (λ fits.
     record {
       no-jobs = λ none.
-          give (no-jobs (day .power) (day .slots) (plan-row w starts) (ledger .counts)
+          give (no-jobs (asleep (day .power)) (day .slots) (plan-row w starts) (ledger .counts)
           (λ u l. not-busy (plan-row w starts) u (λ busy. omega (arith, starter w starts u busy .below)))
           (promised .accepted code))
           (λ all. rw (all .0, all .1 .0, all .1 .1 .0, all .1 .1 .1 .0, all .1 .1 .1 .1));
@@ -90,5 +98,5 @@ row-shown day w starts asked shown promised code i l here =
     rw (
       promised .slot code,
       fills-unique (omega (arith, fit-below (good .rows) fits i l)) (promised .fill code)
-          (rw here at (row-fills (day .power) (day .slots) w starts fits i l)),
+          (rw here at (row-fills (asleep (day .power)) (day .slots) w starts fits i l)),
     )))

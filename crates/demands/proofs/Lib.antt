@@ -1,5 +1,5 @@
 -- The proofs of the demands, most under the name of their statement in specs/. Test, ExamplesChecked and Computed are the examples' computed
--- tests; Instances and InstancesOfFieldDay have runs and a history that meet what the theorems ask.
+-- tests; Instances, InstancesOfFieldDay and InstancesOfGapOfWake have runs, a history and ledgers that meet what the theorems ask.
 pub mod BestPlan
 pub mod DayFile
 pub mod Gaps
@@ -9,6 +9,7 @@ pub mod Mirrored
 pub mod Moving
 pub mod MovingEnds
 pub mod Ledger
+pub mod GapOfWake
 pub mod Standing
 pub mod Added
 pub mod Offered
@@ -28,6 +29,7 @@ pub mod ExamplesOfMoving
 pub mod ExamplesOfFiles
 pub mod Instances
 pub mod InstancesOfFieldDay
+pub mod InstancesOfGapOfWake
 pub mod OneOutcome
 pub mod WrongPrograms
 pub mod Impostors

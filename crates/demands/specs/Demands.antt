@@ -6,6 +6,7 @@ use Rattle.demands.specs.SideBySide.{AppendedJoined, JoinedAccepted, Joi
 use Rattle.demands.specs.Mirrored.{MirroredAccepted, MirroredAnswer}
 use Rattle.demands.specs.Moving.{MovedAccepted, MovingKeeps, LeavesAtEnds, MovesAtEnds}
 use Rattle.demands.specs.Ledger.{LedgerBalances, LedgerOuter, RowShown}
+use Rattle.demands.specs.GapOfWake.{GapShown, LedgerByBoth, SlotByBoth, CostByBoth}
 use Rattle.demands.specs.FieldDay.{
   OpenedPasses,
   AfterPasses,
@@ -51,6 +52,11 @@ pub record Demands : Type 0 where
   pub ledger : LedgerBalances
   pub outer-slots : LedgerOuter
   pub row-shown : RowShown
+  -- a gap of exactly L slots: document 02, T-03
+  pub gap-shown : GapShown
+  pub ledger-by-both : LedgerByBoth
+  pub slot-by-both : SlotByBoth
+  pub cost-by-both : CostByBoth
   -- a day in the field: document 02, T-01
   pub opened-passes : OpenedPasses
   pub after-passes : AfterPasses

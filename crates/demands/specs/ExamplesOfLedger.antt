@@ -1,4 +1,4 @@
--- Examples of the slot ledger and of one slot's record, with document 01's own numbers.
+-- Examples of the slot ledger and of one slot's record, with document 01's own numbers; a gap of exactly L slots is awake, as 02, T-03, has it.
 use Prim.Native.Nat.{ℕ}
 use mathlib.Core.List.{List, [], _∷_}
 use Rattle.checks.specs.declared.Answer.{Answer}
@@ -35,10 +35,14 @@ ledger-examples =
     -- P8 with L 3: gaps of 6 slots and 1; of 2, which is L - 1, and 5; of 3, which is L, and 4, which is L + 1
     claim-of P8 10 3 (0 ∷ 7 ∷ 9 ∷ []) gives ledger-with 0 3 1 6 0
     ∷ claim-of P8 10 3 (0 ∷ 3 ∷ 9 ∷ []) gives ledger-with 0 3 2 5 0
-    ∷ claim-of P8 10 3 (0 ∷ 4 ∷ 9 ∷ []) gives ledger-with 0 3 0 7 0
-    -- the same gaps of 3 and 4 slots with L 4 and L 5
-    ∷ claim-of P8 10 4 (0 ∷ 4 ∷ 9 ∷ []) gives ledger-with 0 3 3 4 0
-    ∷ claim-of P8 10 5 (0 ∷ 4 ∷ 9 ∷ []) gives ledger-with 0 3 7 0 0
+    ∷ claim-of P8 10 3 (0 ∷ 4 ∷ 9 ∷ []) gives ledger-with 0 3 3 4 0
+    -- the same gaps of 3 and 4 slots with L 4 and L 2
+    ∷ claim-of P8 10 4 (0 ∷ 4 ∷ 9 ∷ []) gives ledger-with 0 3 7 0 0
+    ∷ claim-of P8 10 2 (0 ∷ 4 ∷ 9 ∷ []) gives ledger-with 0 3 0 7 0
+    -- L 1: gaps of 1 slot, which is L, and 6; of 2, which is L + 1, and 5. L 0: of 1, which is L + 1, and 6
+    ∷ claim-of P8 10 1 (0 ∷ 2 ∷ 9 ∷ []) gives ledger-with 0 3 1 6 0
+    ∷ claim-of P8 10 1 (0 ∷ 3 ∷ 9 ∷ []) gives ledger-with 0 3 0 7 0
+    ∷ claim-of P8 10 0 (0 ∷ 2 ∷ 9 ∷ []) gives ledger-with 0 3 0 7 0
     -- without jobs
     ∷ claim-of [] 5 3 [] gives ledger-with 5 0 0 0 0
     -- slots before the first job and after the last; with L 0 the machine always sleeps
@@ -84,10 +88,15 @@ slot-examples =
     -- gaps of L - 1, L and L + 1 slots
     ∷ claim-of P8 10 3 (0 ∷ 3 ∷ 9 ∷ []) at-slot 1 gives slot-with 1 Awake
     ∷ claim-of P8 10 3 (0 ∷ 3 ∷ 9 ∷ []) at-slot 2 gives slot-with 2 Awake
-    ∷ claim-of P8 10 3 (0 ∷ 4 ∷ 9 ∷ []) at-slot 1 gives slot-with 1 Asleep
-    ∷ claim-of P8 10 3 (0 ∷ 4 ∷ 9 ∷ []) at-slot 3 gives slot-with 3 Asleep
+    ∷ claim-of P8 10 3 (0 ∷ 4 ∷ 9 ∷ []) at-slot 1 gives slot-with 1 Awake
+    ∷ claim-of P8 10 3 (0 ∷ 4 ∷ 9 ∷ []) at-slot 3 gives slot-with 3 Awake
     ∷ claim-of P8 10 3 (0 ∷ 4 ∷ 9 ∷ []) at-slot 5 gives slot-with 5 Asleep
     ∷ claim-of P8 10 3 (0 ∷ 4 ∷ 9 ∷ []) at-slot 8 gives slot-with 8 Asleep
+    -- of L and L + 1 with L 1, of L + 1 with L 0
+    ∷ claim-of P8 10 1 (0 ∷ 2 ∷ 9 ∷ []) at-slot 1 gives slot-with 1 Awake
+    ∷ claim-of P8 10 1 (0 ∷ 3 ∷ 9 ∷ []) at-slot 1 gives slot-with 1 Asleep
+    ∷ claim-of P8 10 1 (0 ∷ 3 ∷ 9 ∷ []) at-slot 2 gives slot-with 2 Asleep
+    ∷ claim-of P8 10 0 (0 ∷ 2 ∷ 9 ∷ []) at-slot 1 gives slot-with 1 Asleep
     -- before the first job and after the last, and without jobs
     ∷ claim-of within-the-day 9 3 (2 ∷ 5 ∷ []) at-slot 0 gives slot-with 0 Before
     ∷ claim-of within-the-day 9 3 (2 ∷ 5 ∷ []) at-slot 1 gives slot-with 1 Before

@@ -6,19 +6,19 @@ use mathlib.Core.List.{List}
 use Rattle.day.specs.declared.Day.{Day}
 use Rattle.day.specs.Windows.{Windows, at}
 use Rattle.day.specs.Plan.{taken}
-use Rattle.day.specs.Gap.{gaps, cost}
+use Rattle.day.specs.Gap.{asleep, gaps, cost}
 use Rattle.checks.specs.Answer.{done}
 use Rattle.ledger.specs.declared.Fill.the-variants.{Job}
 use Rattle.ledger.specs.declared.SlotAnswer.{SlotAnswer}
 use Rattle.ledger.specs.declared.Counts.{Counts}
 use Rattle.ledger.specs.declared.LedgerAnswer.{LedgerAnswer}
-use Rattle.ledger.specs.Sleep.{sleeps}
+use Rattle.ledger.specs.Sleep.{SleepTest, sleeps}
 use Rattle.ledger.specs.Promise.{LedgerPromise, SlotPromise}
 
-pub record Balanced (day : Day) (w : Windows) (starts : List ℕ) (counts : Counts) : Type 0 where
+pub record Balanced (test : SleepTest) (day : Day) (w : Windows) (starts : List ℕ) (counts : Counts) : Type 0 where
   pub slots : counts .before + counts .job + counts .awake + counts .asleep + counts .after ≡ day .slots
   pub cost : cost day (w .count) (at starts)
-      ≡ counts .awake + day .power .wake * sleeps (day .power) (gaps (taken (w .count) (at starts)) 0 (day .slots))
+      ≡ counts .awake + day .power .wake * sleeps test (gaps (taken (w .count) (at starts)) 0 (day .slots))
 
 -- without jobs before is T and the rest 0
 abbrev pub all-before : ℕ → Counts
@@ -46,7 +46,7 @@ OfLedger Says =
     → Says day w starts (ledger .counts)
 
 abbrev pub LedgerBalances : Type 0
-LedgerBalances = OfLedger Balanced
+LedgerBalances = OfLedger (λ day. Balanced (asleep (day .power)) day)
 
 abbrev pub LedgerOuter : Type 0
 LedgerOuter = OfLedger OuterSlots

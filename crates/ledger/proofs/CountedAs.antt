@@ -5,11 +5,11 @@ use mathlib.Core.Bool.{cond}
 use native.Mathlib.Omega.{arith}
 use lib.Dec.{eqb}
 use borrow.Author.Tests.{eq-eqb, ne-eqb}
-use Rattle.day.specs.declared.Power.{Power}
 use Rattle.day.proofs.Cases.{give, on-eq}
 use Rattle.ledger.specs.declared.Fill.{Fill}
 use Rattle.ledger.specs.declared.Fill.the-variants.{Job, Before, Awake, Asleep, After}
 use Rattle.ledger.specs.declared.Counts.{Counts}
+use Rattle.ledger.specs.Sleep.{SleepTest}
 use Rattle.ledger.specs.Fills.{Fills}
 use Rattle.ledger.specs.Count.{Count, counted-none, counted, passed-over, counted-as, CountedAs, Counted}
 use Rattle.ledger.proofs.Count.{count-all, count-none}
@@ -37,23 +37,27 @@ gains-one Asleep = refl
 gains-one After = refl
 
 -- of the slots below m, the five counts
-pub record CountedTo (power : Power) (slots : ℕ) (row : ℕ → ℕ) (m : ℕ) (counts : Counts) : Type 0 where
-  pub before : Count (CountedAs power slots row 0) m (counts .before)
-  pub job : Count (CountedAs power slots row 1) m (counts .job)
-  pub awake : Count (CountedAs power slots row 2) m (counts .awake)
-  pub asleep : Count (CountedAs power slots row 3) m (counts .asleep)
-  pub after : Count (CountedAs power slots row 4) m (counts .after)
+pub record CountedTo (test : SleepTest) (slots : ℕ) (row : ℕ → ℕ) (m : ℕ) (counts : Counts) : Type 0 where
+  pub before : Count (CountedAs test slots row 0) m (counts .before)
+  pub job : Count (CountedAs test slots row 1) m (counts .job)
+  pub awake : Count (CountedAs test slots row 2) m (counts .awake)
+  pub asleep : Count (CountedAs test slots row 3) m (counts .asleep)
+  pub after : Count (CountedAs test slots row 4) m (counts .after)
 
-module _ {power : Power} {slots : ℕ} {row : ℕ → ℕ} where
-  pub counted-to-end : {c : Counts} → CountedTo power slots row slots c → Counted power slots row c
+module _ {test : SleepTest} {slots : ℕ} {row : ℕ → ℕ} where
+  pub counted-to-end : {c : Counts} → CountedTo test slots row slots c → Counted test slots row c
   counted-to-end p = record { before = p .before; job = p .job; awake = p .awake; asleep = p .asleep; after = p .after }
 
-  counted-as-unique : {j k t : ℕ} → t < slots → CountedAs power slots row j t → CountedAs power slots row k t → j ≡ k
+  -- what fills a slot says in which count it is
+  pub counts-as : {t : ℕ} {f : Fill} → Fills test slots row t f → CountedAs test slots row (counted-as f) t
+  counts-as {f = f} p = record { fill = f; fills = p; here = refl }
+
+  pub counted-as-unique : {j k t : ℕ} → t < slots → CountedAs test slots row j t → CountedAs test slots row k t → j ≡ k
   counted-as-unique l p q = sym (p .here) ∙ ap counted-as (fills-unique l (p .fills) (q .fills)) ∙ q .here
 
   -- a block of g slots that all belong to count k
-  pub count-block : {j k m c : ℕ} (g n d : ℕ) → n ≡ m + g → n ≤ slots → ((u : ℕ) → m ≤ u → u < n → CountedAs power slots row k u)
-      → Count (CountedAs power slots row j) m c → d ≡ c + gain j k g → Count (CountedAs power slots row j) n d
+  pub count-block : {j k m c : ℕ} (g n d : ℕ) → n ≡ m + g → n ≤ slots → ((u : ℕ) → m ≤ u → u < n → CountedAs test slots row k u)
+      → Count (CountedAs test slots row j) m c → d ≡ c + gain j k g → Count (CountedAs test slots row j) n d
   count-block {j} {k} {m} {c} g n d e within block p f =
       on-eq j k
       (λ z. count-all g n d e (omega (arith, gain-here g z)) p (λ u h l. rw z (block u h l)))
@@ -62,14 +66,14 @@ module _ {power : Power} {slots : ℕ} {row : ℕ → ℕ} where
       rw same (count-none g n e p (λ u h l q. z (counted-as-unique (omega arith) q (block u h l)))))
 
   pub counted-block : {m : ℕ} {c d : Counts} (k g n : ℕ) → n ≡ m + g → n ≤ slots
-      → ((u : ℕ) → m ≤ u → u < n → CountedAs power slots row k u)
-      → CountedTo power slots row m c
+      → ((u : ℕ) → m ≤ u → u < n → CountedAs test slots row k u)
+      → CountedTo test slots row m c
       → d .before ≡ c .before + gain 0 k g
       → d .job ≡ c .job + gain 1 k g
       → d .awake ≡ c .awake + gain 2 k g
       → d .asleep ≡ c .asleep + gain 3 k g
       → d .after ≡ c .after + gain 4 k g
-      → CountedTo power slots row n d
+      → CountedTo test slots row n d
   counted-block k g n e within block p before job awake asleep after =
       record {
         before = count-block g n _ e within block (p .before) before;
@@ -80,19 +84,19 @@ module _ {power : Power} {slots : ℕ} {row : ℕ → ℕ} where
       }
 
   -- the count below a slot, from the count up to it
-  count-before : {j m c : ℕ} → m < slots → (q : (f : Fill) × Fills power slots row m f) → Count (CountedAs power slots row j) (suc m) c
-      → (d : ℕ) × Count (CountedAs power slots row j) m d × (c ≡ d + gain j (counted-as (q .0)) 1)
+  count-before : {j m c : ℕ} → m < slots → (q : (f : Fill) × Fills test slots row m f) → Count (CountedAs test slots row j) (suc m) c
+      → (d : ℕ) × Count (CountedAs test slots row j) m d × (c ≡ d + gain j (counted-as (q .0)) 1)
   count-before {j} l q (counted {c = d} p h) =
-      (d, p, omega (arith, gain-here {j = j} {k = counted-as (q .0)} 1 (counted-as-unique l h (record { fill = q .0; fills = q .1; here = refl }))))
+      (d, p, omega (arith, gain-here {j = j} {k = counted-as (q .0)} 1 (counted-as-unique l h (counts-as (q .1)))))
   count-before {j} l q (passed-over {c = d} p h) =
       (d, p, omega (arith, gain-other {j = j} {k = counted-as (q .0)} 1 (λ e. h (record { fill = q .0; fills = q .1; here = sym e }))))
 
-  add-up : (m : ℕ) {b j w a f : ℕ} → m ≤ slots → Count (CountedAs power slots row 0) m b → Count (CountedAs power slots row 1) m j
-      → Count (CountedAs power slots row 2) m w → Count (CountedAs power slots row 3) m a → Count (CountedAs power slots row 4) m f
+  add-up : (m : ℕ) {b j w a f : ℕ} → m ≤ slots → Count (CountedAs test slots row 0) m b → Count (CountedAs test slots row 1) m j
+      → Count (CountedAs test slots row 2) m w → Count (CountedAs test slots row 3) m a → Count (CountedAs test slots row 4) m f
       → b + j + w + a + f ≡ m
   add-up zero l counted-none counted-none counted-none counted-none counted-none = refl
   add-up (suc m) l p q r s t =
-      give (fills-some power slots row m (omega arith))
+      give (fills-some test slots row m (omega arith))
       (λ fill.
       give (count-before (omega arith) fill p)
       (λ before.
@@ -116,7 +120,7 @@ module _ {power : Power} {slots : ℕ} {row : ℕ → ℕ} where
       )))))))
 
 -- the five counts add up to the slots of the day
-pub five-add-up : (power : Power) (slots : ℕ) (row : ℕ → ℕ) (c : Counts) → Counted power slots row c
+pub five-add-up : (test : SleepTest) (slots : ℕ) (row : ℕ → ℕ) (c : Counts) → Counted test slots row c
     → c .before + c .job + c .awake + c .asleep + c .after ≡ slots
-five-add-up power slots row c p =
+five-add-up test slots row c p =
     add-up slots (omega arith) (p .before) (p .job) (p .awake) (p .asleep) (p .after)

@@ -1,13 +1,11 @@
 -- One thing fills each slot of the day; a fit plan's rows fill the slots in which they start. Assumes nothing.
 use Prim.Native.Nat.{ℕ, zero, suc, _+_, _-_, _≤_, _<_}
-use mathlib.Core.Path.{_≡_, refl}
+use mathlib.Core.Path.{_≡_, refl, sym, _∙_}
 use mathlib.Core.Bool.{true, false}
 use mathlib.Core.Logic.{_⊎_, inl, inr, ⊎-elim}
 use mathlib.Core.List.{List}
 use native.Mathlib.Omega.{arith}
-use Rattle.day.specs.declared.Power.{Power}
 use Rattle.day.specs.Windows.{Windows, at}
-use Rattle.day.specs.Gap.{asleep}
 use Rattle.checks.specs.Refusal.{First}
 use Rattle.day.proofs.Cases.{give, on, on-eq, on-le, not-both}
 use Rattle.checks.proofs.Refusal.{first-or-none}
@@ -15,6 +13,7 @@ use Rattle.claim.specs.Claim.{Fit}
 use Rattle.claim.proofs.Rows.{row-at-own}
 use Rattle.ledger.specs.declared.Fill.{Fill}
 use Rattle.ledger.specs.declared.Fill.the-variants.{Job, Before, Awake, Asleep, After}
+use Rattle.ledger.specs.Sleep.{SleepTest}
 use Rattle.ledger.specs.Fills.{Empty, Busy, InGap, Fills, by-job, before-first, after-last, in-awake, in-asleep}
 use Rattle.ledger.specs.Promise.{plan-row}
 use Rattle.ledger.proofs.InGap.{GapAround, around, in-gap}
@@ -41,8 +40,8 @@ module _ {slots : ℕ} {row : ℕ → ℕ} {t : ℕ} where
   gap-unique p q = omega (arith, same-end (around p) (around q), same-end (around q) (around p))
 
   -- asleep and awake are different gaps
-  gap-one-way : (power : Power) {g h : ℕ} → InGap slots row t g → asleep power g ≡ false → InGap slots row t h → asleep power h ≡ true → ⊥
-  gap-one-way power p e q f = not-both (rw (gap-unique p q) f) e
+  gap-one-way : (test : SleepTest) {g h : ℕ} → InGap slots row t g → test g ≡ false → InGap slots row t h → test h ≡ true → ⊥
+  gap-one-way test p e q f = not-both (rw (gap-unique p q) f) e
 
   before-gap : {g : ℕ} → ((u : ℕ) → u ≤ t → Empty row u) → InGap slots row t g → ⊥
   before-gap none p = give (around p) (λ q. q .job-before (none (q .last) (omega (arith, q .after-last))))
@@ -51,7 +50,7 @@ module _ {slots : ℕ} {row : ℕ → ℕ} {t : ℕ} where
   after-gap {g} last h none p =
       give (around p) (λ q. q .job-after (none (q .last + g + 1) (omega (arith, q .before-next)) (q .within)))
 
-  pub fills-unique : {power : Power} {f h : Fill} → t < slots → Fills power slots row t f → Fills power slots row t h → f ≡ h
+  pub fills-unique : {test : SleepTest} {f h : Fill} → t < slots → Fills test slots row t f → Fills test slots row t h → f ≡ h
   fills-unique l (by-job b) (by-job c) = refl
   fills-unique l (by-job b) (before-first n) = absurd (b (n t (omega arith)))
   fills-unique l (by-job b) (after-last s h c n) = absurd (b (n t h l))
@@ -71,12 +70,29 @@ module _ {slots : ℕ} {row : ℕ → ℕ} {t : ℕ} where
   fills-unique l (in-awake g p e) (before-first n) = absurd (before-gap n p)
   fills-unique l (in-awake g p e) (after-last s h c n) = absurd (after-gap s h n p)
   fills-unique l (in-awake g p e) (in-awake h q f) = refl
-  fills-unique {power} l (in-awake g p e) (in-asleep h q f) = absurd (gap-one-way power p e q f)
+  fills-unique {test} l (in-awake g p e) (in-asleep h q f) = absurd (gap-one-way test p e q f)
   fills-unique l (in-asleep g p e) (by-job b) = absurd (b (gap-empty p))
   fills-unique l (in-asleep g p e) (before-first n) = absurd (before-gap n p)
   fills-unique l (in-asleep g p e) (after-last s h c n) = absurd (after-gap s h n p)
-  fills-unique {power} l (in-asleep g p e) (in-awake h q f) = absurd (gap-one-way power q f p e)
+  fills-unique {test} l (in-asleep g p e) (in-awake h q f) = absurd (gap-one-way test q f p e)
   fills-unique l (in-asleep g p e) (in-asleep h q f) = refl
+
+  -- by a test that says the same of the gap around it, the same fills a slot
+  pub fills-by : {test other : SleepTest} {f : Fill} → ((g : ℕ) → InGap slots row t g → test g ≡ other g) → Fills test slots row t f
+      → Fills other slots row t f
+  fills-by same (by-job b) = by-job b
+  fills-by same (before-first n) = before-first n
+  fills-by same (after-last s h b n) = after-last s h b n
+  fills-by same (in-awake g p e) = in-awake g p (sym (same g p) ∙ e)
+  fills-by same (in-asleep g p e) = in-asleep g p (sym (same g p) ∙ e)
+
+  -- what fills a slot tells which gap it lies in, if in any
+  gap-by-fill : {test : SleepTest} {f : Fill} (g : ℕ) → Fills test slots row t f → InGap slots row t g ⊎ (InGap slots row t g → ⊥)
+  gap-by-fill g (by-job b) = inr (λ p. b (gap-empty p))
+  gap-by-fill g (before-first n) = inr (λ p. before-gap n p)
+  gap-by-fill g (after-last s h b n) = inr (λ p. after-gap s h n p)
+  gap-by-fill g (in-awake h p e) = on-eq h g (λ z. inl (rw z at p)) (λ z. inr (λ q. z (gap-unique p q)))
+  gap-by-fill g (in-asleep h p e) = on-eq h g (λ z. inl (rw z at p)) (λ z. inr (λ q. z (gap-unique p q)))
 
 -- the last job before t
 record LastJob (row : ℕ → ℕ) (t : ℕ) : Type 0 where
@@ -112,10 +128,10 @@ later-job-known row t u =
     on-le u t (λ h. inr (λ p. omega (arith, p .0)))
     (λ h. on-eq (row u) 0 (λ e. inr (λ p. p .1 e)) (λ b. inl (h, b)))
 
-module _ (power : Power) (slots : ℕ) (row : ℕ → ℕ) (t : ℕ) (within : t < slots) where
-  between : Empty row t → LastJob row t → (n : ℕ) → First slots (LaterJob row t) n → (f : Fill) × Fills power slots row t f
+module _ (test : SleepTest) (slots : ℕ) (row : ℕ → ℕ) (t : ℕ) (within : t < slots) where
+  between : Empty row t → LastJob row t → (n : ℕ) → First slots (LaterJob row t) n → (f : Fill) × Fills test slots row t f
   between e p n q =
-      on (asleep power (n - suc (p .at))) (λ z. (Asleep, in-asleep (n - suc (p .at)) gap z))
+      on (test (n - suc (p .at))) (λ z. (Asleep, in-asleep (n - suc (p .at)) gap z))
       (λ z. (Awake, in-awake (n - suc (p .at)) gap z))
     where
       next : p .at + (n - suc (p .at)) + 1 ≡ n
@@ -139,7 +155,7 @@ module _ (power : Power) (slots : ℕ) (row : ℕ → ℕ) (t : ℕ) (within : t
           })
 
   -- something fills each slot
-  pub fills-some : (f : Fill) × Fills power slots row t f
+  pub fills-some : (f : Fill) × Fills test slots row t f
   fills-some =
       on-eq (row t) 0
       (λ e.
@@ -159,10 +175,13 @@ module _ (power : Power) (slots : ℕ) (row : ℕ → ℕ) (t : ℕ) (within : t
       (last-or-none row t))
       (λ b. (Job (row t), by-job b))
 
+  pub in-gap-known : (g : ℕ) → InGap slots row t g ⊎ (InGap slots row t g → ⊥)
+  in-gap-known g = gap-by-fill g (fills-some .1)
+
 -- a row of a fit plan fills the slot in which it starts
-pub row-fills : (power : Power) (slots : ℕ) (w : Windows) (starts : List ℕ) → Fit w starts → (i : ℕ) → i < w .count
-    → Fills power slots (plan-row w starts) (at starts i) (Job (i + 1))
-row-fills power slots w starts fit i h =
+pub row-fills : (test : SleepTest) (slots : ℕ) (w : Windows) (starts : List ℕ) → Fit w starts → (i : ℕ) → i < w .count
+    → Fills test slots (plan-row w starts) (at starts i) (Job (i + 1))
+row-fills test slots w starts fit i h =
     give (row-at-own (w .count) (at starts) i h (fit .proper .apart))
     (λ here.
     let number : i + 1 ≡ plan-row w starts (at starts i) = omega (arith, here) in

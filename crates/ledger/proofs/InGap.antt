@@ -19,6 +19,10 @@ pub record GapAround (slots : ℕ) (row : ℕ → ℕ) (t g : ℕ) : Type 0 wher
   pub within : last + g + 1 < slots
 
 module _ {slots : ℕ} {row : ℕ → ℕ} {t g : ℕ} where
+  -- a slot in a gap is one of the day's
+  pub gap-within : InGap slots row t g → t < slots
+  gap-within p = omega (arith, p .not-over, p .gap .job-after .1, p .gap .job-after .2)
+
   pub around : InGap slots row t g → GapAround slots row t g
   around p =
       give (gap-around (holds-job row) slots (p .gap))

@@ -4,13 +4,13 @@ use mathlib.Core.Path.{_≡_}
 use mathlib.Core.List.{List}
 use native.Mathlib.Omega.{arith}
 use lib.ListN.{length}
-use Rattle.day.specs.declared.Power.{Power}
 use Rattle.day.specs.Windows.{at}
 use Rattle.checks.specs.steps.FirstOrEnd.{FirstOrEnd}
 use Rattle.day.proofs.Cases.{on-eq, on-le, not-both}
 use Rattle.claim.specs.Rows.{NextJob}
 use Rattle.claim.proofs.Rows.{holds-job-true, holds-job-false, next-within}
 use Rattle.ledger.specs.declared.Fill.the-variants.{Before, After}
+use Rattle.ledger.specs.Sleep.{SleepTest}
 use Rattle.ledger.specs.Fills.{Empty, Busy, InGap, Fills, before-first, after-last}
 use Rattle.ledger.specs.steps.Run.{RunStart}
 use Rattle.ledger.proofs.InGap.{in-gap}
@@ -32,7 +32,7 @@ next-first {rows} {s} next =
 
 module _ {rows : List ℕ} {slot start : ℕ} (here : Empty (at rows) slot) (run : RunStart rows slot start) where
   -- a run from the day's first slot on is before the first job
-  pub run-before : {power : Power} → start ≡ 0 → Fills power (length rows) (at rows) slot Before
+  pub run-before : {test : SleepTest} → start ≡ 0 → Fills test (length rows) (at rows) slot Before
   run-before e = before-first (λ u h. on-eq u slot (λ z. rw z here) (λ z. run .empty u (omega arith) (omega arith)))
 
   clear-to : {end : ℕ} → NextJob rows slot end → (u : ℕ) → start ≤ u → u < end → Empty (at rows) u
@@ -41,8 +41,8 @@ module _ {rows : List ℕ} {slot start : ℕ} (here : Empty (at rows) slot) (run
       (λ k. run .empty u h k)
 
   -- with no job from there on it is after the last
-  pub run-after : {power : Power} {end : ℕ} → (start ≡ 0 → ⊥) → NextJob rows slot end → end ≡ length rows
-      → Fills power (length rows) (at rows) slot After
+  pub run-after : {test : SleepTest} {end : ℕ} → (start ≡ 0 → ⊥) → NextJob rows slot end → end ≡ length rows
+      → Fills test (length rows) (at rows) slot After
   run-after some next e =
       after-last (start - 1) (omega (arith, run .earlier)) (run .job (omega arith)) (λ u h l. clear-to next u (omega arith) (omega arith))
 

@@ -4,7 +4,6 @@ use mathlib.Core.Path.{_≡_, sym, _∙_}
 use mathlib.Core.List.{List}
 use native.Mathlib.Omega.{arith}
 use lib.ListN.{length, take}
-use Rattle.day.specs.declared.Power.{Power}
 use Rattle.day.specs.Windows.{at}
 use Rattle.day.specs.Plan.{Plan}
 use Rattle.checks.specs.Check.{most-slots}
@@ -13,6 +12,7 @@ use Rattle.claim.specs.Rows.{row-at, RowsBySlot}
 use Rattle.claim.proofs.Rows.{rows-each, rows-cut}
 use Rattle.ledger.specs.declared.Fill.{Fill}
 use Rattle.ledger.specs.declared.Counts.{Counts}
+use Rattle.ledger.specs.Sleep.{SleepTest}
 use Rattle.ledger.specs.Fills.{InGap, Fills, by-job, before-first, after-last, in-awake, in-asleep}
 use Rattle.ledger.specs.Count.{Count, CountedAs, Counted}
 use Rattle.ledger.proofs.Count.{count-same}
@@ -37,8 +37,8 @@ gap-same {slots} {row} {other} {t} {g} agree in-row =
       within = p .within;
     }))
 
-fills-same : {power : Power} {slots : ℕ} {row other : ℕ → ℕ} {t : ℕ} {f : Fill} → Agree slots row other → t < slots
-    → Fills power slots row t f → Fills power slots other t f
+fills-same : {test : SleepTest} {slots : ℕ} {row other : ℕ → ℕ} {t : ℕ} {f : Fill} → Agree slots row other → t < slots
+    → Fills test slots row t f → Fills test slots other t f
 fills-same {t = t} agree l (by-job b) = rw (agree t l) (by-job (λ e. b (agree t l ∙ e)))
 fills-same agree l (before-first n) = before-first (λ u h. sym (agree u (omega arith)) ∙ n u h)
 fills-same agree l (after-last s h b n) =
@@ -46,15 +46,15 @@ fills-same agree l (after-last s h b n) =
 fills-same agree l (in-awake g p e) = in-awake g (gap-same agree p) e
 fills-same agree l (in-asleep g p e) = in-asleep g (gap-same agree p) e
 
-counted-as-same : {power : Power} {slots : ℕ} {row other : ℕ → ℕ} {k t : ℕ} → Agree slots row other → t < slots
-    → CountedAs power slots row k t → CountedAs power slots other k t
+counted-as-same : {test : SleepTest} {slots : ℕ} {row other : ℕ → ℕ} {k t : ℕ} → Agree slots row other → t < slots
+    → CountedAs test slots row k t → CountedAs test slots other k t
 counted-as-same agree l p = record { fill = p .fill; fills = fills-same agree l (p .fills); here = p .here }
 
-module _ {power : Power} {slots : ℕ} {row other : ℕ → ℕ} (agree : Agree slots row other) where
-  one-count : {k c : ℕ} → Count (CountedAs power slots row k) slots c → Count (CountedAs power slots other k) slots c
+module _ {test : SleepTest} {slots : ℕ} {row other : ℕ → ℕ} (agree : Agree slots row other) where
+  one-count : {k c : ℕ} → Count (CountedAs test slots row k) slots c → Count (CountedAs test slots other k) slots c
   one-count = count-same (λ u l. counted-as-same agree l) (λ u l. counted-as-same (λ v h. sym (agree v h)) l)
 
-  counted-same : {c : Counts} → Counted power slots row c → Counted power slots other c
+  counted-same : {c : Counts} → Counted test slots row c → Counted test slots other c
   counted-same p =
       record {
         before = one-count (p .before);
@@ -65,11 +65,11 @@ module _ {power : Power} {slots : ℕ} {row other : ℕ → ℕ} (agree : Agree 
       }
 
 -- from the list of the rows in the day's slots to the plan
-module _ {power : Power} {n slots : ℕ} {start : Plan} {rows : List ℕ} (within : slots ≤ most-slots) (r : RowsBySlot n start rows) where
-  pub plan-filled : {t : ℕ} {f : Fill} → t < slots → Fills power (length (take slots rows)) (at (take slots rows)) t f
-      → Fills power slots (row-at n start) t f
+module _ {test : SleepTest} {n slots : ℕ} {start : Plan} {rows : List ℕ} (within : slots ≤ most-slots) (r : RowsBySlot n start rows) where
+  pub plan-filled : {t : ℕ} {f : Fill} → t < slots → Fills test (length (take slots rows)) (at (take slots rows)) t f
+      → Fills test slots (row-at n start) t f
   plan-filled l p = fills-same (λ u h. rows-each r slots u within h) l (rw (rows-cut r slots within .long) at p)
 
-  pub plan-counted : {c : Counts} → Counted power (length (take slots rows)) (at (take slots rows)) c
-      → Counted power slots (row-at n start) c
+  pub plan-counted : {c : Counts} → Counted test (length (take slots rows)) (at (take slots rows)) c
+      → Counted test slots (row-at n start) c
   plan-counted p = counted-same (λ u h. rows-each r slots u within h) (rw (rows-cut r slots within .long) at p)

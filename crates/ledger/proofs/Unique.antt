@@ -5,7 +5,6 @@ use mathlib.Core.List.{List}
 use native.Mathlib.Omega.{arith}
 use Rattle.checks.specs.declared.Answer.{Answer}
 use Rattle.day.specs.declared.Day.{Day}
-use Rattle.day.specs.declared.Power.{Power}
 use Rattle.day.specs.Windows.{Windows}
 use Rattle.checks.specs.Answer.{done}
 use Rattle.checks.specs.Refusal.{_then_, Passed}
@@ -15,12 +14,13 @@ use Rattle.claim.proofs.Claim.{claim-is-check}
 use Rattle.ledger.specs.declared.Counts.{Counts}
 use Rattle.ledger.specs.declared.LedgerAnswer.{LedgerAnswer}
 use Rattle.ledger.specs.declared.SlotAnswer.{SlotAnswer}
+use Rattle.ledger.specs.Sleep.{SleepTest}
 use Rattle.ledger.specs.Count.{Counted}
-use Rattle.ledger.specs.Promise.{Ledgered, AskedCheck, SlotShown}
+use Rattle.ledger.specs.Promise.{LedgeredBy, AskedCheck, ShownBy}
 use Rattle.ledger.proofs.Count.{count-unique}
 use Rattle.ledger.proofs.Fills.{fills-unique}
 
-counted-unique : {power : Power} {slots : ℕ} {row : ℕ → ℕ} {c d : Counts} → Counted power slots row c → Counted power slots row d → c ≡ d
+counted-unique : {test : SleepTest} {slots : ℕ} {row : ℕ → ℕ} {c d : Counts} → Counted test slots row c → Counted test slots row d → c ≡ d
 counted-unique p q =
     rw (
       count-unique (p .before) (q .before),
@@ -30,12 +30,17 @@ counted-unique p q =
       count-unique (p .after) (q .after),
     )
 
-pub ledgered-unique : {Check : Answer → Type 0} → IsCheck Check → (day : Day) (w : Windows) (starts : List ℕ) (a b : LedgerAnswer)
-    → Ledgered Check day w starts a → Ledgered Check day w starts b → a ≡ b
+-- the answer does not depend on the sleep test
+pub ledgered-answer : {test other : SleepTest} {Check : Answer → Type 0} → IsCheck Check → (day : Day) (w : Windows) (starts : List ℕ)
+    (a b : LedgerAnswer) → LedgeredBy test Check day w starts a → LedgeredBy other Check day w starts b → a .answer ≡ b .answer
+ledgered-answer check day w starts a b p q = passed-unique (claim-is-check check w starts) (a .answer) (b .answer) (p .answer) (q .answer)
+
+pub ledgered-unique : {test : SleepTest} {Check : Answer → Type 0} → IsCheck Check → (day : Day) (w : Windows) (starts : List ℕ) (a b : LedgerAnswer)
+    → LedgeredBy test Check day w starts a → LedgeredBy test Check day w starts b → a ≡ b
 ledgered-unique check day w starts a b p q = rw (same-answer, same-counts)
   where
     same-answer : a .answer ≡ b .answer
-    same-answer = passed-unique (claim-is-check check w starts) (a .answer) (b .answer) (p .answer) (q .answer)
+    same-answer = ledgered-answer check day w starts a b p q
 
     same-counts : a .counts ≡ b .counts
     same-counts =
@@ -52,8 +57,13 @@ shown-within : {Check : Answer → Type 0} → IsCheck Check → (day : Day) (as
 shown-within check day asked a p e =
     on-le (day .slots) asked (λ h. absurd (no-fault (passed-clear (asked-is-check day asked) a (then-done check a p e) e) h)) (λ h. h)
 
-pub shown-unique : {Check : Answer → Type 0} → IsCheck Check → (day : Day) (w : Windows) (starts : List ℕ) (asked : ℕ) (a b : SlotAnswer)
-    → SlotShown Check day w starts asked a → SlotShown Check day w starts asked b → a ≡ b
+pub shown-answer : {test other : SleepTest} {Check : Answer → Type 0} → IsCheck Check → (day : Day) (w : Windows) (starts : List ℕ) (asked : ℕ)
+    (a b : SlotAnswer) → ShownBy test Check day w starts asked a → ShownBy other Check day w starts asked b → a .answer ≡ b .answer
+shown-answer check day w starts asked a b p q =
+    then-unique (claim-is-check check w starts) (passed-unique (asked-is-check day asked)) (a .answer) (b .answer) (p .answer) (q .answer)
+
+pub shown-unique : {test : SleepTest} {Check : Answer → Type 0} → IsCheck Check → (day : Day) (w : Windows) (starts : List ℕ) (asked : ℕ) (a b : SlotAnswer)
+    → ShownBy test Check day w starts asked a → ShownBy test Check day w starts asked b → a ≡ b
 shown-unique check day w starts asked a b p q =
     on-eq (a .answer .code) done
     (λ e.
@@ -66,5 +76,4 @@ shown-unique check day w starts asked a b p q =
     (λ e. rw (same-answer, p .refused e ∙ sym (q .refused (rw same-answer at e))))
   where
     same-answer : a .answer ≡ b .answer
-    same-answer =
-        then-unique (claim-is-check check w starts) (passed-unique (asked-is-check day asked)) (a .answer) (b .answer) (p .answer) (q .answer)
+    same-answer = shown-answer check day w starts asked a b p q

@@ -1,43 +1,41 @@
 -- The walk over the slots that counts them: what is known at each slot. Assumes nothing.
 use Prim.Native.Nat.{ℕ, _+_, _-_, _≤_, _<_}
-use mathlib.Core.Path.{_≡_, refl, _∙_}
+use mathlib.Core.Path.{_≡_, _∙_}
 use mathlib.Core.Bool.{cond}
 use native.Mathlib.Omega.{arith}
-use Rattle.day.specs.declared.Power.{Power}
-use Rattle.day.specs.Gap.{asleep as sleeping}
 use Rattle.checks.specs.steps.FirstOrEnd.{FirstOrEnd}
 use Rattle.day.proofs.Cases.{give, on, on-eq}
-use Rattle.ledger.specs.declared.Fill.the-variants.{Job, Before, Awake, Asleep, After}
 use Rattle.ledger.specs.declared.Counts.{Counts}
+use Rattle.ledger.specs.Sleep.{SleepTest}
 use Rattle.ledger.specs.Fills.{Empty, Busy, InGap, by-job, before-first, after-last, in-awake, in-asleep}
 use Rattle.ledger.specs.Count.{counted-none, Counted}
 use Rattle.ledger.proofs.InGap.{in-gap}
 use Rattle.ledger.proofs.Fills.{not-busy}
-use Rattle.ledger.proofs.CountedAs.{gain, CountedTo, counted-to-end, counted-block}
+use Rattle.ledger.proofs.CountedAs.{gain, CountedTo, counted-to-end, counts-as, counted-block}
 
 abbrev pub five : ℕ → ℕ → ℕ → ℕ → ℕ → Counts
 five before job awake asleep after = record { before = before; job = job; awake = awake; asleep = asleep; after = after }
 
 -- of a gap all slots are slept through, or none
-slept-at-most : {dark : ℕ} (power : Power) (g : ℕ) → dark ≡ cond (sleeping power g) g 0 → dark ≤ g
-slept-at-most {dark} power g e =
-    on (sleeping power g) (λ z. let all : dark ≡ g = e ∙ rw z in omega arith) (λ z. let nothing : dark ≡ 0 = e ∙ rw z in omega arith)
+slept-at-most : {dark : ℕ} (test : SleepTest) (g : ℕ) → dark ≡ cond (test g) g 0 → dark ≤ g
+slept-at-most {dark} test g e =
+    on (test g) (λ z. let all : dark ≡ g = e ∙ rw z in omega arith) (λ z. let nothing : dark ≡ 0 = e ∙ rw z in omega arith)
 
 -- the walk began at the first job and stands at a slot: the slots below `settled` are counted, those from there on are empty so far
-pub record Walked (power : Power) (slots : ℕ) (row : ℕ → ℕ) (first job awake asleep empty slot : ℕ) : Type 0 where
+pub record Walked (test : SleepTest) (slots : ℕ) (row : ℕ → ℕ) (first job awake asleep empty slot : ℕ) : Type 0 where
   pub within : slot ≤ slots
   pub begun : FirstOrEnd slots (Busy row) first
   pub past : first ≤ slot
   pub sum : first + job + awake + asleep + empty ≡ slot
-  pub settled : CountedTo power slots row (slot - empty) (five first job awake asleep 0)
+  pub settled : CountedTo test slots row (slot - empty) (five first job awake asleep 0)
   pub waiting : (u : ℕ) → slot - empty ≤ u → u < slot → Empty row u
   pub last : first < slot → (1 ≤ slot - empty) × Busy row (slot - empty - 1)
 
-module _ {power : Power} {slots : ℕ} {row : ℕ → ℕ} where
-  counts-none : CountedTo power slots row 0 (five 0 0 0 0 0)
+module _ {test : SleepTest} {slots : ℕ} {row : ℕ → ℕ} where
+  counts-none : CountedTo test slots row 0 (five 0 0 0 0 0)
   counts-none = record { before = counted-none; job = counted-none; awake = counted-none; asleep = counted-none; after = counted-none }
 
-  pub walked-first : {first : ℕ} → FirstOrEnd slots (Busy row) first → Walked power slots row first 0 0 0 0 first
+  pub walked-first : {first : ℕ} → FirstOrEnd slots (Busy row) first → Walked test slots row first 0 0 0 0 first
   unfolding gain
   walked-first {first} begun =
       record {
@@ -49,15 +47,15 @@ module _ {power : Power} {slots : ℕ} {row : ℕ → ℕ} where
             counted-block {m = 0} {c = five 0 0 0 0 0} {d = five first 0 0 0 0} 0 first (first - 0) (omega arith)
             (omega (arith, begun .within))
             (λ u h l.
-            record { fill = Before; fills = before-first (λ v k. not-busy row v (begun .lowest v (omega arith))); here = refl })
+            counts-as (before-first (λ v k. not-busy row v (begun .lowest v (omega arith)))))
             counts-none (omega arith) (omega arith) (omega arith) (omega arith) (omega arith);
         waiting = λ u h l. absurd (omega arith);
         last = λ h. absurd (omega arith);
       }
 
   -- an empty slot waits for the job that shows what it is
-  pub walked-empty : {first job awake asleep empty slot empty-after : ℕ} → Walked power slots row first job awake asleep empty slot
-      → slot < slots → Empty row slot → empty-after ≡ empty + 1 → Walked power slots row first job awake asleep empty-after (slot + 1)
+  pub walked-empty : {first job awake asleep empty slot empty-after : ℕ} → Walked test slots row first job awake asleep empty slot
+      → slot < slots → Empty row slot → empty-after ≡ empty + 1 → Walked test slots row first job awake asleep empty-after (slot + 1)
   walked-empty {first} {job} {awake} {asleep} {empty} {slot} p within here e =
       let same : slot + 1 - (empty + 1) ≡ slot - empty = omega arith in
       rw e
@@ -75,18 +73,18 @@ module _ {power : Power} {slots : ℕ} {row : ℕ → ℕ} where
       before-here h = on-eq first slot (λ z. absurd (p .begun .fault (omega arith) (rw z here))) (λ z. omega arith)
 
   -- the counts of one job more stay below the slots of the day
-  pub walked-room : {first job awake asleep empty slot dark : ℕ} → Walked power slots row first job awake asleep empty slot
-      → dark ≡ cond (sleeping power empty) empty 0
+  pub walked-room : {first job awake asleep empty slot dark : ℕ} → Walked test slots row first job awake asleep empty slot
+      → dark ≡ cond (test empty) empty 0
       → (dark ≤ empty) × ((asleep + dark ≤ slots) × ((awake + (empty - dark) ≤ slots) × (job ≤ slots)))
   walked-room {empty = empty} p e =
-      give (slept-at-most power empty e)
+      give (slept-at-most test empty e)
       (λ l. (
         l,
         (omega (arith, p .sum, p .within), (omega (arith, p .sum, p .within), omega (arith, p .sum, p .within))),
       ))
 
   -- a job ends the gap of the slots that wait
-  gap-around : {first job awake asleep empty slot : ℕ} → Walked power slots row first job awake asleep empty slot
+  gap-around : {first job awake asleep empty slot : ℕ} → Walked test slots row first job awake asleep empty slot
       → slot < slots → Busy row slot
       → (u : ℕ) → slot - empty ≤ u → u < slot → InGap slots row u empty
   gap-around {first} {job} {awake} {asleep} {empty} {slot} p within busy u h l =
@@ -105,28 +103,28 @@ module _ {power : Power} {slots : ℕ} {row : ℕ → ℕ} where
       }))
 
   -- the slots that wait are counted awake or asleep
-  gap-settled : {first job awake asleep empty slot dark : ℕ} → Walked power slots row first job awake asleep empty slot → slot < slots
-      → Busy row slot → dark ≡ cond (sleeping power empty) empty 0
-      → CountedTo power slots row slot (five first job (awake + (empty - dark)) (asleep + dark) 0)
+  gap-settled : {first job awake asleep empty slot dark : ℕ} → Walked test slots row first job awake asleep empty slot → slot < slots
+      → Busy row slot → dark ≡ cond (test empty) empty 0
+      → CountedTo test slots row slot (five first job (awake + (empty - dark)) (asleep + dark) 0)
   unfolding gain
   gap-settled {first} {job} {awake} {asleep} {empty} {slot} {dark} p within busy e =
-      on (sleeping power empty)
+      on (test empty)
       (λ z.
       let all : dark ≡ empty = e ∙ rw z in
       counted-block {m = slot - empty} {c = five first job awake asleep 0} 3 empty slot (omega (arith, p .sum)) (omega arith)
-      (λ u h l. record { fill = Asleep; fills = in-asleep empty (gap-around p within busy u h l) z; here = refl }) (p .settled)
+      (λ u h l. counts-as (in-asleep empty (gap-around p within busy u h l) z)) (p .settled)
       (omega arith) (omega arith) (omega arith) (omega arith) (omega arith))
       (λ z.
       let all : dark ≡ 0 = e ∙ rw z in
       counted-block {m = slot - empty} {c = five first job awake asleep 0} 2 empty slot (omega (arith, p .sum)) (omega arith)
-      (λ u h l. record { fill = Awake; fills = in-awake empty (gap-around p within busy u h l) z; here = refl }) (p .settled)
+      (λ u h l. counts-as (in-awake empty (gap-around p within busy u h l) z)) (p .settled)
       (omega arith) (omega arith) (omega arith) (omega arith) (omega arith))
 
   pub walked-job : {first job awake asleep empty slot dark job-after awake-after asleep-after empty-after : ℕ}
-      → Walked power slots row first job awake asleep empty slot
-      → slot < slots → Busy row slot → dark ≡ cond (sleeping power empty) empty 0
+      → Walked test slots row first job awake asleep empty slot
+      → slot < slots → Busy row slot → dark ≡ cond (test empty) empty 0
       → asleep-after ≡ asleep + dark → awake-after ≡ awake + (empty - dark) → job-after ≡ job + 1 → empty-after ≡ 0
-      → Walked power slots row first job-after awake-after asleep-after empty-after (slot + 1)
+      → Walked test slots row first job-after awake-after asleep-after empty-after (slot + 1)
   unfolding gain
   walked-job {first} {job} {awake} {asleep} {empty} {slot} {dark} p within busy d a w j e =
       rw (a, w, j, e)
@@ -134,13 +132,13 @@ module _ {power : Power} {slots : ℕ} {row : ℕ → ℕ} where
         within = omega arith;
         begun = p .begun;
         past = omega (arith, p .past);
-        sum = omega (arith, p .sum, slept-at-most power empty d);
+        sum = omega (arith, p .sum, slept-at-most test empty d);
         settled =
             counted-block {m = slot} {c = five first job (awake + (empty - dark)) (asleep + dark) 0} 1 1 (slot + 1 - 0) (omega arith)
             (omega arith)
             (λ u h l.
             let here : u ≡ slot = omega arith in
-            record { fill = Job (row u); fills = by-job (rw here busy); here = refl })
+            counts-as (by-job (rw here busy)))
             (gap-settled p within busy d) (omega arith) (omega arith) (omega arith) (omega arith) (omega arith);
         waiting = λ u h l. absurd (omega arith);
         last = λ h.
@@ -149,8 +147,8 @@ module _ {power : Power} {slots : ℕ} {row : ℕ → ℕ} where
       }
 
   -- the slots that still wait at the end come after the last job
-  pub walked-end : {first job awake asleep empty slot : ℕ} → Walked power slots row first job awake asleep empty slot → slots ≤ slot
-      → Counted power slots row (five first job awake asleep empty)
+  pub walked-end : {first job awake asleep empty slot : ℕ} → Walked test slots row first job awake asleep empty slot → slots ≤ slot
+      → Counted test slots row (five first job awake asleep empty)
   unfolding gain
   walked-end {first} {job} {awake} {asleep} {empty} {slot} p end =
       counted-to-end
@@ -158,11 +156,7 @@ module _ {power : Power} {slots : ℕ} {row : ℕ → ℕ} where
       (λ u h l.
       give (p .last (omega (arith, p .sum, p .within)))
       (λ behind.
-      record {
-        fill = After;
-        fills =
-            after-last (slot - empty - 1) (omega (arith, behind .0)) (behind .1)
-            (λ v a b. p .waiting v (omega (arith, behind .0)) (omega arith));
-        here = refl;
-      }))
+      counts-as
+      (after-last (slot - empty - 1) (omega (arith, behind .0)) (behind .1)
+      (λ v a b. p .waiting v (omega (arith, behind .0)) (omega arith)))))
       (p .settled) (omega arith) (omega arith) (omega arith) (omega arith) (omega arith))

@@ -1,10 +1,10 @@
 -- The five counts of the ledger: how many slots of the day are filled so.
 use Prim.Native.Nat.{ℕ, suc}
 use mathlib.Core.Path.{_≡_}
-use Rattle.day.specs.declared.Power.{Power}
 use Rattle.ledger.specs.declared.Fill.{Fill}
 use Rattle.ledger.specs.declared.Fill.the-variants.{Job, Before, Awake, Asleep, After}
 use Rattle.ledger.specs.declared.Counts.{Counts}
+use Rattle.ledger.specs.Sleep.{SleepTest}
 use Rattle.ledger.specs.Fills.{Fills}
 
 -- of the numbers below m, c have the property
@@ -22,15 +22,15 @@ counted-as Asleep = 3
 counted-as After = 4
 
 -- what fills slot t belongs to count k
-pub record CountedAs (power : Power) (slots : ℕ) (row : ℕ → ℕ) (k t : ℕ) : Type 0 where
+pub record CountedAs (test : SleepTest) (slots : ℕ) (row : ℕ → ℕ) (k t : ℕ) : Type 0 where
   pub fill : Fill
-  pub fills : Fills power slots row t fill
+  pub fills : Fills test slots row t fill
   pub here : counted-as fill ≡ k
 
 -- of the slots of the day, the five counts
-pub record Counted (power : Power) (slots : ℕ) (row : ℕ → ℕ) (counts : Counts) : Type 0 where
-  pub before : Count (CountedAs power slots row 0) slots (counts .before)
-  pub job : Count (CountedAs power slots row 1) slots (counts .job)
-  pub awake : Count (CountedAs power slots row 2) slots (counts .awake)
-  pub asleep : Count (CountedAs power slots row 3) slots (counts .asleep)
-  pub after : Count (CountedAs power slots row 4) slots (counts .after)
+pub record Counted (test : SleepTest) (slots : ℕ) (row : ℕ → ℕ) (counts : Counts) : Type 0 where
+  pub before : Count (CountedAs test slots row 0) slots (counts .before)
+  pub job : Count (CountedAs test slots row 1) slots (counts .job)
+  pub awake : Count (CountedAs test slots row 2) slots (counts .awake)
+  pub asleep : Count (CountedAs test slots row 3) slots (counts .asleep)
+  pub after : Count (CountedAs test slots row 4) slots (counts .after)

@@ -5,6 +5,7 @@ use mathlib.Core.List.{List}
 use Rattle.checks.specs.declared.Answer.{Answer}
 use Rattle.day.specs.declared.Day.{Day}
 use Rattle.day.specs.Windows.{Windows, at}
+use Rattle.day.specs.Gap.{asleep}
 use Rattle.checks.specs.Answer.{done, no-such-slot}
 use Rattle.checks.specs.Refusal.{_then_, Passed, Refuses}
 use Rattle.checks.specs.Check.{ListCheck}
@@ -15,6 +16,7 @@ use Rattle.ledger.specs.declared.SlotFill.{SlotFill}
 use Rattle.ledger.specs.declared.SlotAnswer.{SlotAnswer}
 use Rattle.ledger.specs.declared.Counts.{Counts}
 use Rattle.ledger.specs.declared.LedgerAnswer.{LedgerAnswer}
+use Rattle.ledger.specs.Sleep.{SleepTest}
 use Rattle.ledger.specs.Fills.{Fills}
 use Rattle.ledger.specs.Count.{Counted}
 
@@ -25,11 +27,15 @@ plan-row w starts = row-at (w .count) (at starts)
 abbrev pub no-counts : Counts
 no-counts = record { before = 0; job = 0; awake = 0; asleep = 0; after = 0 }
 
--- the ledger, for any check of the list: refused as pricing, or the five counts of the plan
-pub record Ledgered (Check : Answer → Type 0) (day : Day) (w : Windows) (starts : List ℕ) (answered : LedgerAnswer) : Type 0 where
+-- the ledger by a sleep test, for any check of the list: refused as pricing, or the five counts of the plan
+pub record LedgeredBy (test : SleepTest) (Check : Answer → Type 0) (day : Day) (w : Windows) (starts : List ℕ) (answered : LedgerAnswer) : Type 0 where
   pub answer : (ClaimCheck Check w starts then Passed) (answered .answer)
-  pub accepted : answered .answer .code ≡ done → Counted (day .power) (day .slots) (plan-row w starts) (answered .counts)
+  pub accepted : answered .answer .code ≡ done → Counted test (day .slots) (plan-row w starts) (answered .counts)
   pub refused : (answered .answer .code ≡ done → ⊥) → answered .counts ≡ no-counts
+
+-- by the sleep test of the day's power
+abbrev pub Ledgered : (Answer → Type 0) → Day → Windows → List ℕ → LedgerAnswer → Type 0
+Ledgered Check day = LedgeredBy (asleep (day .power)) Check day
 
 -- what `ledger` promises: codes 1 to 4 for the list
 abbrev pub LedgerPromise : Day → Windows → List ℕ → LedgerAnswer → Type 0
@@ -43,13 +49,13 @@ no-slot = record { slot = 0; fill = Before }
 abbrev pub AskedCheck : Day → ℕ → Answer → Type 0
 AskedCheck day asked = Refuses no-such-slot (day .slots ≤ asked)
 
--- one slot of a plan, for any check of the list: refused as pricing, then by 19, or the slot and what fills it
-pub record SlotShown (Check : Answer → Type 0) (day : Day) (w : Windows) (starts : List ℕ) (asked : ℕ) (shown : SlotAnswer) : Type 0 where
+-- one slot of a plan by a sleep test, for any check of the list: refused as pricing, then by 19, or the slot and what fills it
+pub record ShownBy (test : SleepTest) (Check : Answer → Type 0) (day : Day) (w : Windows) (starts : List ℕ) (asked : ℕ) (shown : SlotAnswer) : Type 0 where
   pub answer : (ClaimCheck Check w starts then AskedCheck day asked then Passed) (shown .answer)
   pub slot : shown .answer .code ≡ done → shown .held .slot ≡ asked
-  pub fill : shown .answer .code ≡ done → Fills (day .power) (day .slots) (plan-row w starts) asked (shown .held .fill)
+  pub fill : shown .answer .code ≡ done → Fills test (day .slots) (plan-row w starts) asked (shown .held .fill)
   pub refused : (shown .answer .code ≡ done → ⊥) → shown .held ≡ no-slot
 
 -- what `slot` promises: codes 1 to 4 for the list
 abbrev pub SlotPromise : Day → Windows → List ℕ → ℕ → SlotAnswer → Type 0
-SlotPromise day w = SlotShown (ListCheck day w) day w
+SlotPromise day w = ShownBy (asleep (day .power)) (ListCheck day w) day w

@@ -1,11 +1,18 @@
--- How often the machine sleeps.
+-- Sleep tests: which gaps the machine sleeps through, how often, and what it pays then.
 use Prim.Native.Nat.{ℕ, suc}
-use mathlib.Core.Bool.{cond}
+use mathlib.Core.Bool.{Bool, cond}
 use mathlib.Core.List.{List, [], _∷_}
 use Rattle.day.specs.declared.Power.{Power}
-use Rattle.day.specs.Gap.{asleep}
+
+-- whether the machine sleeps through a gap of so many slots; the ledger's own test is `asleep` in day
+abbrev pub SleepTest : Type 0
+SleepTest = ℕ → Bool
 
 -- of a list of gaps, the number of those that it sleeps through
-unfoldable pub sleeps : Power → List ℕ → ℕ
-sleeps power [] = 0
-sleeps power (g ∷ gs) = cond (asleep power g) (suc (sleeps power gs)) (sleeps power gs)
+unfoldable pub sleeps : SleepTest → List ℕ → ℕ
+sleeps test [] = 0
+sleeps test (g ∷ gs) = cond (test g) (suc (sleeps test gs)) (sleeps test gs)
+
+-- what the machine pays for a gap of g slots if it does as the test says: a wake asleep, one a slot awake
+abbrev pub paid : Power → SleepTest → ℕ → ℕ
+paid power test g = cond (test g) (power .wake) g

@@ -26,7 +26,7 @@ fn slept(power: Power, gap: u16) -> u16
 // The five counts.
 pub(crate) fn count(power: Power, rows: &[u16]) -> Counts
     requires { ⌜ length (now rows) ≤ most-slots ⌝ }
-    ensures { λ counts. ⌜ Counted power (length (now (rows .entry))) (at (now (rows .entry))) counts ⌝ }
+    ensures { λ counts. ⌜ Counted (asleep power) (length (now (rows .entry))) (at (now (rows .entry))) counts ⌝ }
 {
     let first = claim::slots::next_job(rows, 0);
     let mut job: u16 = 0;
@@ -73,7 +73,7 @@ fn run_start(rows: &[u16], slot: usize) -> usize
 // What fills a slot.
 pub(crate) fn fill_at(power: Power, rows: &[u16], slot: usize) -> Fill
     requires { ⌜ (length (now rows) ≤ most-slots) × (slot < length (now rows)) ⌝ }
-    ensures { λ fill. ⌜ Fills power (length (now (rows .entry))) (at (now (rows .entry))) slot fill ⌝ }
+    ensures { λ fill. ⌜ Fills (asleep power) (length (now (rows .entry))) (at (now (rows .entry))) slot fill ⌝ }
 {
     let row = rows[slot];
     if row != 0 {

@@ -1,4 +1,4 @@
-// What document 01 says of a plan, counted directly: each function looks at the rows anew, and none uses the planner's ways.
+// What documents 01 and 02 say of a plan, counted directly: each function looks at the rows anew, and none uses the planner's ways.
 use crate::case;
 use checks::Answer;
 use checks::code;
@@ -166,7 +166,7 @@ fn beside_job(gap: Gap, start: u16, slot: u16) -> Gap {
     gap
 }
 
-// What fills a slot of a plan with this answer.
+// What fills a slot of a plan with this answer. A gap of exactly L slots is awake.
 pub(crate) fn fill(case: &[u16], starts: &[u16], answer: Answer, slot: u16) -> u16 {
     if answer.code != code::DONE {
         return NOTHING;
@@ -182,7 +182,7 @@ pub(crate) fn fill(case: &[u16], starts: &[u16], answer: Answer, slot: u16) -> u
     if gap.next == NOWHERE {
         return AFTER;
     }
-    if wrapping_sub_u16(gap.next, gap.since) < at_or_zero(case, case::WAKE) {
+    if wrapping_sub_u16(gap.next, gap.since) <= at_or_zero(case, case::WAKE) {
         return AWAKE;
     }
     ASLEEP

@@ -1,7 +1,8 @@
-// Examples of document 01 that are not proved of the definitions: limits, refusals, slips, and the program's answers to files. They are read from
-// standard input; the file `stdin` has them, and says what stands in a line.
+// Examples of documents 01 and 02 that are not proved of the definitions: limits, refusals, slips, what fills the slots of a plan, and the
+// program's answers to files. They are read from standard input; the file `stdin` has them, and says what stands in a line.
 use crate::beside;
 use crate::case;
+use crate::direct;
 use crate::tally;
 use crate::tally::Tally;
 use checks::code;
@@ -82,7 +83,7 @@ fn agrees(kind: u8, case: &[u16], words: &[u8], table: &mut [u16]) -> bool {
     if kind == b'f' {
         return is_printed(case, words, table);
     }
-    is_answered(kind, case, table)
+    is_answered(kind, case, table) && (kind != b's' || is_drawn(case, words))
 }
 
 fn is_answered(kind: u8, case: &[u16], table: &mut [u16]) -> bool {
@@ -92,6 +93,40 @@ fn is_answered(kind: u8, case: &[u16], table: &mut [u16]) -> bool {
         return beside::planned(case, answer, starts, table);
     }
     beside::priced(case, answer, starts)
+}
+
+// Whether ledger and slot records say what direct counting says, and that is what is drawn, a byte for each slot.
+fn is_drawn(case: &[u16], drawn: &[u8]) -> bool {
+    beside::claimed(case, case::starts(case)) && fills_as(case, drawn)
+}
+
+fn fills_as(case: &[u16], drawn: &[u8]) -> bool {
+    let mut slot = 0;
+    while slot < at_or_zero(case, case::SLOTS) {
+        let fill = direct::fill(case, case::starts(case), case::answer(case), slot);
+        if fill != fill_of(byte_at(drawn, wide(slot))) {
+            return false;
+        }
+        slot += 1;
+    }
+    drawn.len() == wide(slot)
+}
+
+// What a byte stands for; a digit is the row of a job.
+fn fill_of(byte: u8) -> u16 {
+    if byte == b'<' {
+        return direct::BEFORE;
+    }
+    if byte == b'.' {
+        return direct::AWAKE;
+    }
+    if byte == b'z' {
+        return direct::ASLEEP;
+    }
+    if byte == b'>' {
+        return direct::AFTER;
+    }
+    wrapping_add_u16(direct::JOB, with_digit(0, byte))
 }
 
 // The numbers of a line, of which the first place says how many there are.

@@ -1,5 +1,5 @@
-// Runs the examples of document 01 that aren't proved of the definitions, and compares the planner and its companions with a slow search over all
-// plans and with direct counting, on small days.
+// Runs the examples of documents 01 and 02 that aren't proved of the definitions, and compares the planner and its companions with a slow
+// search over all plans and with direct counting, on small days.
 mod beside;
 mod case;
 mod days;

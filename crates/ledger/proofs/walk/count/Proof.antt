@@ -5,6 +5,7 @@ use native.Mathlib.Omega.{arith}
 use borrow.Author.Needs.{needs}
 use lib.ListN.{length}
 use Rattle.day.specs.Windows.{at}
+use Rattle.day.specs.Gap.{asleep as sleeping}
 use Rattle.ledger.proofs.Walked.{Walked, walked-first, walked-empty, walked-job, walked-end, walked-room}
 use Rattle.ledger.proofs.Run.{next-first}
 use Rattle.ledger.proofs.walk.count.Statement.{statement}
@@ -12,7 +13,7 @@ use Rattle.ledger.proofs.walk.count.Tie as tie
 
 abbrev Inv-loop : tie.InvT-loop
 Inv-loop power rows first job₀ awake₀ asleep₀ empty₀ slot₀ job awake asleep empty slot =
-    Walked power (length rows) (at rows) first job awake asleep empty slot
+    Walked (sleeping power) (length rows) (at rows) first job awake asleep empty slot
 
 abbrev μ-loop : tie.MeasureT-loop
 μ-loop power rows first job₀ awake₀ asleep₀ empty₀ slot₀ job awake asleep empty slot = length rows - slot
