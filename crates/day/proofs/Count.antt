@@ -3,8 +3,8 @@ use Prim.Native.Nat.{ℕ, zero, suc, _+_, _≤_, _<_}
 use mathlib.Core.Path.{_≡_, refl, ap}
 use mathlib.Core.Logic.{_⊎_, ⊎-elim}
 use native.Mathlib.Omega.{arith}
+use Rattle.day.specs.Count.{Count, counted-none, counted, passed-over}
 use Rattle.day.proofs.Cases.{give}
-use Rattle.ledger.specs.Count.{Count, counted-none, counted, passed-over}
 
 pub count-unique : {P : ℕ → Type 0} {m c d : ℕ} → Count P m c → Count P m d → c ≡ d
 count-unique counted-none counted-none = refl
