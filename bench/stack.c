@@ -19,6 +19,7 @@ static chaskuri_field_day held, shorter; // the day opened with the list, and wi
 
 static void check(void) { chaskuri_check(day.slots, jobs, count); }
 static void plan(void) { chaskuri_plan(day, jobs, count, starts, MOST_JOBS, table, sizeof table / sizeof *table); }
+static void crowd(void) { chaskuri_crowded_span(day.slots, jobs, count); }
 static void price(void) { chaskuri_price(day, jobs, count, starts, MOST_JOBS); }
 static void which(void) { chaskuri_which(day, jobs, count, starts, MOST_JOBS, starts, MOST_JOBS); }
 static void ledger(void) { chaskuri_ledger(day, jobs, count, starts, MOST_JOBS); }
@@ -34,9 +35,8 @@ static void add(void) { chaskuri_add(shorter, jobs[count - 1], table, sizeof tab
 static const struct {
     const char *name;
     void (*call)(void);
-} calls[] = {{"check", check}, {"plan", plan}, {"price", price}, {"which", which}, {"ledger", ledger},
-             {"slot", slot},   {"move", move}, {"write", write}, {"read", read},   {"open", open},
-             {"advance", advance}, {"add", add}, {"offer", offer}};
+} calls[] = {{"check", check}, {"plan", plan}, {"crowded_span", crowd}, {"price", price}, {"which", which}, {"ledger", ledger}, {"slot", slot},
+             {"move", move},   {"write", write}, {"read", read}, {"open", open}, {"advance", advance}, {"add", add}, {"offer", offer}};
 enum { CALLS = sizeof calls / sizeof *calls };
 
 static unsigned char stack[1 << 16], *top;
@@ -113,6 +113,6 @@ int main(void) {
         }
     }
     for (int i = 0; i < CALLS; i++)
-        printf("chaskuri_%-8s%6zu bytes\n", calls[i].name, most[i]);
+        printf("chaskuri_%-13s%6zu bytes\n", calls[i].name, most[i]);
     return 0;
 }

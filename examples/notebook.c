@@ -1,5 +1,5 @@
 /* What the notebook's firmware does with a day: the list of examples/p8.day is checked, planned, priced, looked at, moved, written and read
- * back. Run, from the repository's root, after rt staticlib chaskuri:
+ * back; and where a list has no plan, it shows why. Run, from the repository's root, after rt staticlib chaskuri:
  *     cc -O2 examples/notebook.c target/staticlib/libchaskuri.a -o target/notebook && target/notebook */
 #include "../include/chaskuri.h"
 
@@ -21,6 +21,18 @@ static void show_starts(const uint16_t *starts, size_t count) {
 
 static uint16_t table[CHASKURI_TABLE_PLACES(3, 14)];
 
+// Plans a list of at most three jobs; where no plan exists, shows the slots that are too few.
+static void plan_or_why(chaskuri_day day, const chaskuri_job *jobs, size_t count, uint16_t *starts) {
+    chaskuri_answer planned = chaskuri_plan(day, jobs, count, starts, count, table, sizeof table / sizeof *table);
+    printf("plan: code %u, cost %u\n", (unsigned)planned.code, (unsigned)planned.first);
+    if (planned.code == CHASKURI_DONE)
+        show_starts(starts, count);
+    if (planned.code == CHASKURI_NO_PLAN) {
+        chaskuri_span span = chaskuri_crowded_span(day.slots, jobs, count).span;
+        printf("too few: slots %u to %u for %u jobs\n", (unsigned)span.begin, (unsigned)span.end - 1, (unsigned)span.jobs);
+    }
+}
+
 int main(void) {
     chaskuri_day day = {10, {3}};
     chaskuri_job jobs[3] = {{0, 1}, {2, 8}, {9, 10}}, read[40];
@@ -34,9 +46,9 @@ int main(void) {
     if (checked.code != CHASKURI_DONE)
         return 1;
 
-    chaskuri_answer planned = chaskuri_plan(day, jobs, 3, starts, 3, table, sizeof table / sizeof *table);
-    printf("plan: code %u, cost %u\n", (unsigned)planned.code, (unsigned)planned.first);
-    show_starts(starts, 3);
+    plan_or_why(day, jobs, 3, starts);
+    chaskuri_job crowd[3] = {{8, 10}, {8, 10}, {8, 10}};
+    plan_or_why(day, crowd, 3, starts); // the starts stay as they are
 
     chaskuri_answer priced = chaskuri_price(day, jobs, 3, server, 3);
     printf("the server's plan: code %u, cost %u\n", (unsigned)priced.code, (unsigned)priced.first);
@@ -57,9 +69,7 @@ int main(void) {
     moved = chaskuri_move(14, jobs, 3, 4);
     printf("moved by 4 on a day of 14: code %u\n", (unsigned)moved.code);
     show_jobs("jobs", jobs, 3);
-    planned = chaskuri_plan(day, jobs, 3, starts, 3, table, sizeof table / sizeof *table);
-    printf("plan: code %u, cost %u\n", (unsigned)planned.code, (unsigned)planned.first);
-    show_starts(starts, 3);
+    plan_or_why(day, jobs, 3, starts);
 
     chaskuri_answer written = chaskuri_write(day, jobs, 3, 5, file, sizeof file);
     printf("written after 5 bytes of notes: code %u\n", (unsigned)written.code);

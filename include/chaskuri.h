@@ -6,6 +6,7 @@
  *   Job: a record of a list, which has at most 40. It fills one slot of its window. Rows are counted from 1 in answers.
  *   Start: the slot that a job fills. The starts of a plan stand in row order, one for each job.
  *   Proper: a plan in which each job starts in its window, and no two in the same slot.
+ *   Crowded span: slots a to b-1 of the day in which more than b-a jobs have their whole window. There is one exactly if no plan is proper.
  *   Gap: a longest run of empty slots with a job somewhere before it and one after it. Before the first job and after the last there is none.
  *   Price of a gap of g slots: the smaller of g and wake. With g <= wake the machine is awake, with g > wake it is asleep.
  *   Cost of a plan: the sum over its gaps. Without jobs it is 0.
@@ -80,6 +81,18 @@ typedef struct {
     chaskuri_counts counts;
 } chaskuri_ledger_answer;
 
+/* The slots `begin` to `end` - 1, and how many jobs have their whole window there; all 0 under a refusal. */
+typedef struct {
+    uint16_t begin;
+    uint16_t end;
+    uint16_t jobs;
+} chaskuri_span;
+
+typedef struct {
+    chaskuri_answer answer;
+    chaskuri_span span;
+} chaskuri_crowd_answer;
+
 /* What fills a slot. Under a refusal slot, filling and row are 0. */
 typedef struct {
     chaskuri_answer answer;
@@ -135,7 +148,8 @@ enum chaskuri_code {
     CHASKURI_NEITHER_PROPER = 16, /* neither of two plans is proper */
     CHASKURI_LEAVES_DAY = 18,     /* first: the first row whose moved window would leave the day */
     CHASKURI_NO_SUCH_SLOT = 19,   /* the slot asked for is not of the day */
-    CHASKURI_DAY_OVER = 20        /* the current slot is above the day's slots, or, to advance, equal to them */
+    CHASKURI_DAY_OVER = 20,       /* the current slot is above the day's slots, or, to advance, equal to them */
+    CHASKURI_PLAN_EXISTS = 21     /* there is a proper plan, so that no span is crowded */
 };
 
 /* How many places of the work table a plan of so many jobs on a day of so many slots needs: 401,841 are enough for any. */
@@ -150,6 +164,11 @@ chaskuri_answer chaskuri_check(uint16_t slots, const chaskuri_job *jobs, size_t 
  * On 0 the first `count` starts are the plan's. On 0 and 7 the needed places of the table are set to zero. Nothing else is written. */
 chaskuri_answer chaskuri_plan(chaskuri_day day, const chaskuri_job *jobs, size_t count, uint16_t *starts, size_t starts_len, uint16_t *table,
                               size_t table_len);
+
+/* Why there is no proper plan: the shortest crowded span, among those the earliest. On 0 the answer's numbers are 0, and the span is shown. A wake is
+ * not asked for: where chaskuri_plan answers 7, at whatever wake, this answers 0, and where that answers 0, this answers 21.
+ * Refuses by 1, 3, 4, 21, in that order. Writes nothing. */
+chaskuri_crowd_answer chaskuri_crowded_span(uint16_t slots, const chaskuri_job *jobs, size_t count);
 
 /* What a claimed plan costs. Of the starts only the first `count` matter.
  * Refuses by 1, 2, 3, 4, 5, 14 over all rows, then 15. Writes nothing. */

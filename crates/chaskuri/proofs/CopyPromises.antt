@@ -13,10 +13,12 @@ use Rattle.day.specs.Windows.{Windows, windows}
 use Rattle.checks.specs.Answer.{done, no-plan}
 use Rattle.checks.specs.Refusal.{_then_, Passed}
 use Rattle.checks.specs.Check.{most-jobs, TimesCheck, ListCheck}
-use Rattle.checks.proofs.Check.{list-is-check, list-avoids}
+use Rattle.checks.proofs.Check.{times-is-check, list-is-check, list-avoids}
 use Rattle.checks.proofs.Refusal.{refuses-is-check}
 use Rattle.claim.specs.Claim.{ClaimCheck, PricePromise}
 use Rattle.choice.specs.Choice.{ChoicePromise, PartFor, refused, of-own, of-server, PartPromise}
+use Rattle.crowd.specs.declared.CrowdAnswer.{CrowdAnswer}
+use Rattle.crowd.specs.Promise.{CrowdCheck, CrowdPromise}
 use Rattle.filewriter.specs.Writer.{RoomCheck, WritePromise}
 use Rattle.fieldday.specs.declared.FieldAnswer.{FieldAnswer}
 use Rattle.fieldday.specs.Promise.{OpenPromise}
@@ -44,6 +46,18 @@ module _ (day : Day) (w v : Windows) (starts : List ℕ) (many : most-jobs < w .
 module _ (jobs : List Job) where
   pub list-checked : (slots : ℕ) (a : Answer) → (TimesCheck slots (windows-in (rows-of 0 jobs)) then Passed) a → (TimesCheck slots (windows-of jobs) then Passed) a
   list-checked slots a = windows-promised jobs (λ w. (TimesCheck slots w then Passed) a) (λ w v h l. alike-first (times-alike w v h l slots) .same a)
+
+  pub list-crowded : (slots : ℕ) (answered : CrowdAnswer) → CrowdPromise slots (windows-in (rows-of 0 jobs)) answered → CrowdPromise slots (windows-of jobs) answered
+  list-crowded slots answered =
+      windows-promised jobs (λ w. CrowdPromise slots w answered)
+      (λ w v h l p.
+      let alike : Alike (TimesCheck slots w) (TimesCheck slots v) = times-alike w v h l slots in
+      let checks : Alike (CrowdCheck (TimesCheck slots w) w) (CrowdCheck (TimesCheck slots v) v) = alike-first alike in
+      record {
+        answer = alike-first checks .same (answered .answer) (p .answer);
+        shown = λ e. absurd (times-is-check .not-done (answered .answer) (alike-stops alike (answered .answer) (alike-stops checks (answered .answer) (p .answer))) e);
+        refused = p .refused;
+      })
 
   pub list-priced : (day : Day) (starts : List ℕ) (a : Answer) → PricePromise day (windows-in (rows-of 0 jobs)) starts a → PricePromise day (windows-of jobs) starts a
   list-priced day starts a = windows-promised jobs (λ w. PricePromise day w starts a) (λ w v h l. alike-first (claims-alike day w v starts h l) .same a)

@@ -3,6 +3,7 @@ use crate::numbers::SlotNumbers;
 use crate::numbers::of_slot;
 use checks::Answer;
 use checks::code;
+use crowd::CrowdAnswer;
 use day::Day;
 use day::wide;
 use dayfile::Reading;
@@ -15,6 +16,7 @@ ghost use Rattle.checks.specs.Refusal.{_then_, Passed};
 ghost use Rattle.checks.specs.Check.{TimesCheck};
 ghost use Rattle.claim.specs.Claim.{PricePromise};
 ghost use Rattle.choice.specs.Choice.{ChoicePromise, PartPromise};
+ghost use Rattle.crowd.specs.Promise.{CrowdPromise};
 ghost use Rattle.filewriter.specs.Writer.{WritePromise};
 ghost use Rattle.fieldday.specs.Promise.{OpenPromise};
 ghost use Rattle.filewriter.specs.Writer.{WritePromise};
@@ -54,6 +56,16 @@ pub(crate) fn plan(day: Day, rows: Rows, starts: &mut [u16], table: &mut [u16]) 
     let releases = rows.releases;
     let deadlines = rows.deadlines;
     planner::plan(day, &releases[..count], &deadlines[..count], starts, table)
+}
+
+pub(crate) fn crowded_span(slots: u16, rows: Rows) -> CrowdAnswer
+    requires { ⌜ RowsFit rows ⌝ }
+    ensures { λ answered. ⌜ CrowdPromise slots (windows-in rows) answered ⌝ }
+{
+    let count = rows.count;
+    let releases = rows.releases;
+    let deadlines = rows.deadlines;
+    crowd::crowded_span(slots, &releases[..count], &deadlines[..count])
 }
 
 pub(crate) fn price(day: Day, rows: Rows, starts: &[u16]) -> Answer

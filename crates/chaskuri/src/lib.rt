@@ -4,6 +4,7 @@ pub mod numbers;
 
 use crate::numbers::SlotNumbers;
 use checks::Answer;
+use crowd::CrowdAnswer;
 use day::Day;
 use day::Job;
 use dayfile::Reading;
@@ -15,6 +16,7 @@ ghost use Rattle.checks.specs.Refusal.{_then_, Passed};
 ghost use Rattle.checks.specs.Check.{TimesCheck};
 ghost use Rattle.claim.specs.Claim.{PricePromise};
 ghost use Rattle.choice.specs.Choice.{ChoicePromise, PartPromise};
+ghost use Rattle.crowd.specs.Promise.{CrowdPromise};
 ghost use Rattle.dayfile.specs.Reader.{ReadPromise};
 ghost use Rattle.fieldday.specs.Promise.{OpenPromise, AdvancePromise, AddPromise, OfferPromise};
 ghost use Rattle.filewriter.specs.Writer.{WritePromise};
@@ -44,6 +46,14 @@ pub extern "C" fn chaskuri_plan(
     ensures { λ a. ⌜ PlanPromise day (windows-of (now (jobs .entry))) (now (starts .entry)) (now (table .entry)) a (now (starts .exit)) (now (table .exit)) ⌝ }
 {
     by_value::plan(day, rows::copy_out(jobs, 0), starts, table)
+}
+
+// Why there is no proper plan: the shortest crowded span, among those the earliest. A wake cost is not asked for. The span is all zeros where it refuses.
+#[no_mangle]
+pub extern "C" fn chaskuri_crowded_span(slots: u16, jobs: &[Job]) -> CrowdAnswer
+    ensures { λ answered. ⌜ CrowdPromise slots (windows-of (now (jobs .entry))) answered ⌝ }
+{
+    by_value::crowded_span(slots, rows::copy_out(jobs, 0))
 }
 
 // Prices a claimed plan.

@@ -89,6 +89,20 @@ clear-good-rows {limit} {slots} {w} clear =
       in-day = λ i l. on-le (w .deadline i) slots (λ h. h) (λ h. absurd (none i l (inr h)));
     })
 
+-- the rows are good on a longer day too
+pub good-rows-longer : {limit slots longer : ℕ} {w : Windows} → slots ≤ longer → GoodRows limit slots w → GoodRows limit longer w
+good-rows-longer h good =
+    record { count = good .count; window = good .window; in-day = λ i l. omega (arith, good .in-day i l) }
+
+-- a day whose length is not refused
+pub clear-slots : {limit slots : ℕ} → ((b : Answer) → SlotsCheck limit slots b → ⊥) → (0 < slots) × (slots ≤ limit)
+clear-slots {limit} {slots} clear =
+    give (no-fault clear)
+    (λ right. (
+      on-le slots 0 (λ h. absurd (right (inl (omega arith)))) (λ h. h),
+      on-le slots limit (λ h. h) (λ h. absurd (right (inr h))),
+    ))
+
 -- a day of a right length with good rows is not refused
 pub times-clear : {slots : ℕ} {w : Windows} → 0 < slots → slots ≤ most-slots → GoodRows most-jobs slots w → (b : Answer)
     → TimesCheck slots w b → ⊥
@@ -104,11 +118,11 @@ accepted-clear accepted =
 -- a list that is not refused is accepted
 pub clear-accepted : {day : Day} {w : Windows} → ((b : Answer) → ListCheck day w b → ⊥) → Accepted day w
 clear-accepted {day} clear =
-    give (no-fault (clear-first clear))
+    give (clear-slots (clear-first clear))
     (λ slots-right.
     record {
-      some-slots = on-le (day .slots) 0 (λ h. absurd (slots-right (inl (omega arith)))) (λ h. h);
-      slots = on-le (day .slots) most-slots (λ h. h) (λ h. absurd (slots-right (inr h)));
+      some-slots = slots-right .0;
+      slots = slots-right .1;
       wake =
           on-le (day .power .wake) most-wake (λ h. h) (λ h. absurd (no-fault (clear-first (clear-next clear)) h));
       rows = clear-good-rows (clear-next (clear-next clear));

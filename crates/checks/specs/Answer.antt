@@ -67,3 +67,6 @@ no-such-slot = 19
 
 abbrev pub day-over : ℕ
 day-over = 20
+
+abbrev pub plan-exists : ℕ
+plan-exists = 21

@@ -40,3 +40,5 @@ pub const LEAVES_DAY: u16 = 18;
 pub const NO_SUCH_SLOT: u16 = 19;
 
 pub const DAY_OVER: u16 = 20;
+
+pub const PLAN_EXISTS: u16 = 21;

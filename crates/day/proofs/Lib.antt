@@ -2,6 +2,7 @@
 pub mod Cases
 pub mod Changed
 pub mod Stored
+pub mod Count
 pub mod Numbering
 pub mod Unique
 pub mod Span

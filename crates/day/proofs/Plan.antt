@@ -131,6 +131,17 @@ pub record Narrower (w v : Windows) : Type 0 where
   pub release : (i : ℕ) → i < w .count → v .release i ≤ w .release i
   pub deadline : (i : ℕ) → i < w .count → w .deadline i ≤ v .deadline i
 
+pub narrower-same : (w : Windows) → Narrower w w
+narrower-same w = record { count = refl; release = λ i l. omega arith; deadline = λ i l. omega arith }
+
+pub narrower-twice : {w v u : Windows} → Narrower w v → Narrower v u → Narrower w u
+narrower-twice {w} {v} n m =
+    record {
+      count = m .count ∙ n .count;
+      release = λ i l. omega (arith, n .release i l, m .release i (omega (arith, n .count)));
+      deadline = λ i l. omega (arith, n .deadline i l, m .deadline i (omega (arith, n .count)));
+    }
+
 pub proper-wider : {w v : Windows} {p : Plan} → Narrower w v → Proper w p → Proper v p
 proper-wider {w} n P =
     record {

@@ -12,3 +12,4 @@ pub mod Moved
 pub mod Joined
 pub mod Changed
 pub mod Stored
+pub mod Count

@@ -17,6 +17,9 @@ pub record Proper (w : Windows) (start : Plan) : Type 0 where
   pub inside : (i : ℕ) → i < w .count → MayStart w i (start i)
   pub apart : (i j : ℕ) → i < w .count → j < w .count → start i ≡ start j → i ≡ j
 
+abbrev pub SomePlan : Windows → Type 0
+SomePlan w = (start : Plan) × Proper w start
+
 abbrev pub NoPlan : Windows → Type 0
 NoPlan w = (start : Plan) → Proper w start → ⊥
 

@@ -1,6 +1,7 @@
 -- All that is promised holds. Assumes nothing.
 use Rattle.demands.specs.Demands.{Demands}
 use Rattle.demands.proofs.BestPlan.{best-or-none, answers-admitted, seven-exactly}
+use Rattle.demands.proofs.WhyNoPlan.{crowded-exactly, answers-why}
 use Rattle.demands.proofs.DayFile.{reads-back}
 use Rattle.demands.proofs.Gaps.{gaps-are-listed}
 use Rattle.demands.proofs.Joined.{appended-joined, joined-accepted}
@@ -18,6 +19,7 @@ use Rattle.demands.proofs.History.{done-at-most-once, done-once-by-end}
 use Rattle.demands.proofs.RowsStay.{rows-stay}
 use Rattle.demands.proofs.Text.{prints-decimals}
 use Rattle.demands.proofs.Examples.{examples-hold, refused-plans-hold}
+use Rattle.demands.proofs.ExamplesOfCrowds.{crowd-examples-hold}
 use Rattle.demands.proofs.ExamplesOfClaims.{priced-examples-hold, chosen-examples-hold}
 use Rattle.demands.proofs.ExamplesOfLedger.{ledger-examples-hold, slot-examples-hold}
 use Rattle.demands.proofs.ExamplesOfMoving.{moved-examples-hold}
@@ -63,9 +65,12 @@ demands =
       done-at-most-once = done-at-most-once;
       done-once-by-end = done-once-by-end;
       rows-stay = rows-stay;
+      crowded-exactly = crowded-exactly;
+      answers-why = answers-why;
       decimals = prints-decimals;
       examples = examples-hold;
       refused-plans = refused-plans-hold;
+      crowd-examples = crowd-examples-hold;
       priced-examples = priced-examples-hold;
       chosen-examples = chosen-examples-hold;
       ledger-examples = ledger-examples-hold;

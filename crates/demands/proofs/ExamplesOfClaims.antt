@@ -91,7 +91,7 @@ unfit w starts =
     (some-below {P = λ j. (i : ℕ) × (i < w .count) × ((i < j) × Together starts i j)}
     (λ j. some-below (λ i. both (less i j) (together starts i j .yes)) (w .count)) (w .count))))
 
-abbrev is-fit : (w : Windows) (starts : List ℕ) → BothWays (Fit w starts)
+abbrev pub is-fit : (w : Windows) (starts : List ℕ) → BothWays (Fit w starts)
 is-fit w starts = record { yes = through (clear-fit w starts) (judge-starts w starts .clear); no = unfit w starts }
 
 -- where a plan is fit, another is, or it is not and nothing is asked of it

@@ -9,6 +9,7 @@ use lib.Dec.{eqb}
 use Rattle.day.specs.declared.Day.{Day}
 use Rattle.day.specs.Windows.{Windows}
 use Rattle.day.specs.Gap.{asleep}
+use Rattle.day.specs.Count.{counted-none}
 use Rattle.checks.specs.Answer.{done}
 use Rattle.checks.specs.Check.{ListCheck}
 use Rattle.claim.specs.Rows.{row-at, holds-job}
@@ -21,7 +22,7 @@ use Rattle.ledger.specs.declared.SlotFill.{SlotFill}
 use Rattle.ledger.specs.declared.SlotAnswer.{SlotAnswer}
 use Rattle.ledger.specs.Sleep.{SleepTest}
 use Rattle.ledger.specs.Fills.{Empty, InGap, Fills, by-job, before-first, after-last, in-awake, in-asleep}
-use Rattle.ledger.specs.Count.{counted-none, counted-as, Counted}
+use Rattle.ledger.specs.Count.{counted-as, Counted}
 use Rattle.ledger.specs.Promise.{plan-row, no-counts, no-slot, LedgeredBy, ShownBy}
 use Rattle.ledger.proofs.InGap.{in-gap}
 use Rattle.ledger.proofs.CountedAs.{gain, CountedTo, counted-to-end, counts-as, counted-block}

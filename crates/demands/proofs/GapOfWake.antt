@@ -10,18 +10,19 @@ use Rattle.day.specs.declared.Day.{Day}
 use Rattle.day.specs.declared.Power.{Power}
 use Rattle.day.specs.Windows.{Windows}
 use Rattle.day.specs.Gap.{asleep}
+use Rattle.day.specs.Count.{Count, counted-none}
 use Rattle.day.proofs.Cases.{give, on-eq, on-le}
 use Rattle.day.proofs.Gap.{price-long, price-short, asleep-long, awake-short}
+use Rattle.day.proofs.Count.{count-unique, count-same, count-known, count-none, Parted, count-parted}
 use Rattle.checks.specs.Answer.{done}
 use Rattle.checks.proofs.Check.{list-is-check}
 use Rattle.ledger.specs.declared.Fill.the-variants.{Awake, Asleep}
 use Rattle.ledger.specs.declared.Counts.{Counts}
 use Rattle.ledger.specs.Sleep.{SleepTest}
 use Rattle.ledger.specs.Fills.{InGap, Fills, in-awake, in-asleep}
-use Rattle.ledger.specs.Count.{Count, counted-none, CountedAs, Counted}
+use Rattle.ledger.specs.Count.{CountedAs, Counted}
 use Rattle.ledger.specs.Promise.{plan-row}
 use Rattle.ledger.proofs.InGap.{gap-within}
-use Rattle.ledger.proofs.Count.{count-unique, count-same, count-known, count-none, Parted, count-parted}
 use Rattle.ledger.proofs.Fills.{fills-unique, fills-by, in-gap-known}
 use Rattle.ledger.proofs.CountedAs.{counts-as, counted-as-unique, five-add-up}
 use Rattle.ledger.proofs.Cost.{PaysPrice, asleep-pays, cost-paid}

@@ -22,7 +22,7 @@ use Rattle.demands.proofs.Computed.{best-test, no-plan-test, accepted-t
 use Rattle.demands.proofs.ExamplesOfMoving.{moved-list}
 
 -- rows, T, L; then cost and starts. The lent lists have just the places needed, and hold 9 before
-abbrev run-with : List (ℕ × ℕ) → ℕ → ℕ → ℕ → List ℕ → Run
+abbrev pub run-with : List (ℕ × ℕ) → ℕ → ℕ → ℕ → List ℕ → Run
 run-with jobs slots wake cost starts =
     record {
       day = day-with slots wake;
@@ -35,7 +35,7 @@ run-with jobs slots wake cost starts =
       table-after = replicate (need slots (length jobs)) 0;
     }
 
-abbrev served-test : (run : Run) → Test (Served run)
+abbrev pub served-test : (run : Run) → Test (Served run)
 served-test run =
     through
     (λ t. record { promised = t .0; admitted = record { accepted = t .1 .0; room = t .1 .1 .0; table = t .1 .1 .1 } })
@@ -79,7 +79,7 @@ parts-join =
 
 -- mirrored
 
-abbrev forward : Run
+abbrev pub forward : Run
 forward = run-with P8 10 3 4 (0 ∷ 7 ∷ 9 ∷ [])
 
 abbrev backward : Run

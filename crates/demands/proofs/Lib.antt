@@ -1,6 +1,7 @@
 -- The proofs of the demands, most under the name of their statement in specs/. Test, ExamplesChecked and Computed are the examples' computed
--- tests; Instances, InstancesOfFieldDay and InstancesOfGapOfWake have runs, a history and ledgers that meet what the theorems ask.
+-- tests; Instances and the modules after it have runs, a history and ledgers that meet what the theorems ask.
 pub mod BestPlan
+pub mod WhyNoPlan
 pub mod DayFile
 pub mod Gaps
 pub mod Joined
@@ -24,10 +25,12 @@ pub mod ExamplesChecked
 pub mod Computed
 pub mod Examples
 pub mod ExamplesOfClaims
+pub mod ExamplesOfCrowds
 pub mod ExamplesOfLedger
 pub mod ExamplesOfMoving
 pub mod ExamplesOfFiles
 pub mod Instances
+pub mod InstancesOfWhyNoPlan
 pub mod InstancesOfFieldDay
 pub mod InstancesOfGapOfWake
 pub mod OneOutcome

@@ -5,6 +5,7 @@ use Rattle.checks.proofs.Refusal.{passed-unique}
 use Rattle.checks.proofs.Check.{slots-is-check, power-is-check, jobs-is-check, times-is-check, list-is-check}
 use Rattle.day.proofs.Unique.{numbering-unique}
 use Rattle.planner.proofs.Unique.{plan-unique}
+use Rattle.crowd.proofs.Unique.{crowd-unique}
 use Rattle.claim.proofs.Unique.{judged-unique, priced-unique, next-unique}
 use Rattle.choice.proofs.Unique.{chosen-unique, handed-unique}
 use Rattle.ledger.proofs.Unique.{ledgered-unique, shown-unique}
@@ -36,6 +37,7 @@ one-outcome =
       plan = λ day w starts table x y p q.
           give (plan-unique day w starts table (x .0) (y .0) (x .1) (x .2) (y .1) (y .2) p q)
           (λ s. all-same x y (s .0) (s .1) (s .2));
+      crowded-span = crowd-unique;
       judge = λ day w. judged-unique list-is-check w;
       price = λ day w. priced-unique list-is-check day w;
       which = λ day w. chosen-unique list-is-check day w;

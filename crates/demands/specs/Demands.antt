@@ -1,5 +1,6 @@
 -- All that is promised, in one place. Each field is a statement of the file that it comes from.
 use Rattle.demands.specs.BestPlan.{GivesBestOrNone, AnswersAdmitted, SevenIfNone}
+use Rattle.demands.specs.WhyNoPlan.{CrowdedExactly, AnswersWhy}
 use Rattle.demands.specs.DayFile.{ReadsBack}
 use Rattle.demands.specs.Gaps.{GapsListed}
 use Rattle.demands.specs.SideBySide.{AppendedJoined, JoinedAccepted, JoinsSideBySide, JoinsSeven}
@@ -22,6 +23,7 @@ use Rattle.demands.specs.FieldDay.{
 use Rattle.demands.specs.History.{DoneAtMostOnce, DoneOnceByEnd, RowsStay}
 use Rattle.demands.specs.Text.{PrintsDecimals}
 use Rattle.demands.specs.Examples.{ExamplesHold, RefusedPlansHold}
+use Rattle.demands.specs.ExamplesOfCrowds.{CrowdExamplesHold}
 use Rattle.demands.specs.ExamplesOfClaims.{PricedExamplesHold, ChosenExamplesHold}
 use Rattle.demands.specs.ExamplesOfLedger.{LedgerExamplesHold, SlotExamplesHold}
 use Rattle.demands.specs.ExamplesOfMoving.{MovedExamplesHold}
@@ -71,11 +73,15 @@ pub record Demands : Type 0 where
   pub done-at-most-once : DoneAtMostOnce
   pub done-once-by-end : DoneOnceByEnd
   pub rows-stay : RowsStay
+  -- why there is no plan: document 02, T-04
+  pub crowded-exactly : CrowdedExactly
+  pub answers-why : AnswersWhy
   -- the printed text
   pub decimals : PrintsDecimals
-  -- examples with document 01's own numbers: P1 to P10, and a table for each entry point
+  -- examples with the documents' own numbers: P1 to P10, and a table for each entry point
   pub examples : ExamplesHold
   pub refused-plans : RefusedPlansHold
+  pub crowd-examples : CrowdExamplesHold
   pub priced-examples : PricedExamplesHold
   pub chosen-examples : ChosenExamplesHold
   pub ledger-examples : LedgerExamplesHold

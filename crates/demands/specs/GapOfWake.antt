@@ -9,6 +9,7 @@ use Rattle.day.specs.declared.Day.{Day}
 use Rattle.day.specs.Windows.{Windows}
 use Rattle.day.specs.Plan.{Plan, taken}
 use Rattle.day.specs.Gap.{asleep, gaps, total, cost}
+use Rattle.day.specs.Count.{Count}
 use Rattle.checks.specs.Answer.{done}
 use Rattle.checks.specs.Check.{ListCheck}
 use Rattle.ledger.specs.declared.Fill.the-variants.{Awake, Asleep}
@@ -17,7 +18,6 @@ use Rattle.ledger.specs.declared.Counts.{Counts}
 use Rattle.ledger.specs.declared.LedgerAnswer.{LedgerAnswer}
 use Rattle.ledger.specs.Sleep.{SleepTest, paid}
 use Rattle.ledger.specs.Fills.{InGap}
-use Rattle.ledger.specs.Count.{Count}
 use Rattle.ledger.specs.Promise.{plan-row, LedgeredBy, LedgerPromise, ShownBy, SlotPromise}
 use Rattle.demands.specs.Ledger.{Balanced}
 

@@ -19,6 +19,7 @@ use Rattle.claim.specs.Rows.{NextJob, Judged}
 use Rattle.choice.specs.Choice.{ChoicePromise, PartPromise, SamePart}
 use Rattle.ledger.specs.Promise.{LedgerPromise, SlotPromise}
 use Rattle.cutlist.specs.CutRows.{HoldsCut}
+use Rattle.crowd.specs.Promise.{CrowdPromise}
 use Rattle.fieldday.specs.declared.FieldDay.{FieldDay}
 use Rattle.fieldday.specs.declared.FieldAnswer.{FieldAnswer}
 use Rattle.fieldday.specs.Promise.{OpenPromise, AdvancePromise, AddPromise, OfferPromise}
@@ -48,6 +49,8 @@ pub record OneOutcome : Type 0 where
   -- planner
   pub plan : (day : Day) (w : Windows) (starts table : List ℕ)
       → AtMostOne {A = Answer × List ℕ × List ℕ} (λ o. PlanPromise day w starts table (o .0) (o .1) (o .2))
+  -- crowd
+  pub crowded-span : (slots : ℕ) (w : Windows) → AtMostOne (CrowdPromise slots w)
   -- claim
   pub judge : (day : Day) (w : Windows) (starts : List ℕ) → AtMostOne (Judged (ListCheck day w) w starts)
   pub price : (day : Day) (w : Windows) (starts : List ℕ) → AtMostOne (PricePromise day w starts)

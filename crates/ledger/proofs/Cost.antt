@@ -10,8 +10,10 @@ use Rattle.day.specs.declared.Power.{Power}
 use Rattle.day.specs.declared.Day.{Day}
 use Rattle.day.specs.Plan.{Plan, taken}
 use Rattle.day.specs.Gap.{price, asleep, ended, gaps-since, gaps, total, cost}
+use Rattle.day.specs.Count.{Count}
 use Rattle.checks.specs.steps.FirstOrEnd.{FirstOrEnd}
 use Rattle.day.proofs.Cases.{give, on, on-eq}
+use Rattle.day.proofs.Count.{count-unique}
 use Rattle.checks.proofs.Refusal.{first-or-none}
 use Rattle.day.proofs.Gap.{
   price-asleep,
@@ -28,9 +30,8 @@ use Rattle.claim.specs.Rows.{row-at, holds-job}
 use Rattle.claim.proofs.Rows.{row-at-taken, holds-job-true, holds-job-false}
 use Rattle.ledger.specs.declared.Counts.{Counts}
 use Rattle.ledger.specs.Fills.{Busy}
-use Rattle.ledger.specs.Count.{Count, CountedAs, Counted}
+use Rattle.ledger.specs.Count.{CountedAs, Counted}
 use Rattle.ledger.specs.Sleep.{SleepTest, sleeps, paid}
-use Rattle.ledger.proofs.Count.{count-unique}
 use Rattle.ledger.proofs.Fills.{not-busy}
 use Rattle.ledger.proofs.Walked.{Walked, walked-first, walked-empty, walked-job, walked-end}
 

@@ -5,14 +5,15 @@ use mathlib.Core.Bool.{cond}
 use native.Mathlib.Omega.{arith}
 use lib.Dec.{eqb}
 use borrow.Author.Tests.{eq-eqb, ne-eqb}
+use Rattle.day.specs.Count.{Count, counted-none, counted, passed-over}
 use Rattle.day.proofs.Cases.{give, on-eq}
+use Rattle.day.proofs.Count.{count-all, count-none}
 use Rattle.ledger.specs.declared.Fill.{Fill}
 use Rattle.ledger.specs.declared.Fill.the-variants.{Job, Before, Awake, Asleep, After}
 use Rattle.ledger.specs.declared.Counts.{Counts}
 use Rattle.ledger.specs.Sleep.{SleepTest}
 use Rattle.ledger.specs.Fills.{Fills}
-use Rattle.ledger.specs.Count.{Count, counted-none, counted, passed-over, counted-as, CountedAs, Counted}
-use Rattle.ledger.proofs.Count.{count-all, count-none}
+use Rattle.ledger.specs.Count.{counted-as, CountedAs, Counted}
 use Rattle.ledger.proofs.Fills.{fills-unique, fills-some}
 
 -- what count j gains where g slots belong to count k

@@ -1,5 +1,4 @@
 -- The laws of the definitions in specs/, and the theorems of the ledger.
-pub mod Count
 pub mod InGap
 pub mod Fills
 pub mod CountedAs

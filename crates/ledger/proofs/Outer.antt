@@ -3,13 +3,14 @@ use Prim.Native.Nat.{ℕ, suc, _+_, _-_, _≤_, _<_}
 use mathlib.Core.Path.{_≡_}
 use native.Mathlib.Omega.{arith}
 use Rattle.checks.specs.steps.FirstOrEnd.{FirstOrEnd}
+use Rattle.day.specs.Count.{counted-none}
 use Rattle.day.proofs.Cases.{on-le}
+use Rattle.day.proofs.Count.{count-unique, count-all, count-none}
 use Rattle.ledger.specs.declared.Fill.{Fill}
 use Rattle.ledger.specs.declared.Counts.{Counts}
 use Rattle.ledger.specs.Sleep.{SleepTest}
 use Rattle.ledger.specs.Fills.{Empty, Busy, Fills, by-job, before-first, after-last, in-awake, in-asleep}
-use Rattle.ledger.specs.Count.{counted-none, counted-as, Counted}
-use Rattle.ledger.proofs.Count.{count-unique, count-all, count-none}
+use Rattle.ledger.specs.Count.{counted-as, Counted}
 use Rattle.ledger.proofs.Fills.{not-busy}
 use Rattle.ledger.proofs.CountedAs.{counts-as, five-add-up}
 

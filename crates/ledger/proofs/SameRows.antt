@@ -6,16 +6,17 @@ use native.Mathlib.Omega.{arith}
 use lib.ListN.{length, take}
 use Rattle.day.specs.Windows.{at}
 use Rattle.day.specs.Plan.{Plan}
+use Rattle.day.specs.Count.{Count}
 use Rattle.checks.specs.Check.{most-slots}
 use Rattle.day.proofs.Cases.{give}
+use Rattle.day.proofs.Count.{count-same}
 use Rattle.claim.specs.Rows.{row-at, RowsBySlot}
 use Rattle.claim.proofs.Rows.{rows-each, rows-cut}
 use Rattle.ledger.specs.declared.Fill.{Fill}
 use Rattle.ledger.specs.declared.Counts.{Counts}
 use Rattle.ledger.specs.Sleep.{SleepTest}
 use Rattle.ledger.specs.Fills.{InGap, Fills, by-job, before-first, after-last, in-awake, in-asleep}
-use Rattle.ledger.specs.Count.{Count, CountedAs, Counted}
-use Rattle.ledger.proofs.Count.{count-same}
+use Rattle.ledger.specs.Count.{CountedAs, Counted}
 use Rattle.ledger.proofs.InGap.{around, in-gap}
 
 -- two functions give the same row for each slot of the day

@@ -9,6 +9,7 @@ use Rattle.day.specs.Windows.{Windows}
 use Rattle.checks.specs.Answer.{done}
 use Rattle.checks.specs.Refusal.{_then_, Passed}
 use Rattle.day.proofs.Cases.{on-eq, on-le}
+use Rattle.day.proofs.Count.{count-unique}
 use Rattle.checks.proofs.Refusal.{IsCheck, refuses-is-check, then-unique, passed-unique, then-done, passed-clear, no-fault}
 use Rattle.claim.proofs.Claim.{claim-is-check}
 use Rattle.ledger.specs.declared.Counts.{Counts}
@@ -17,7 +18,6 @@ use Rattle.ledger.specs.declared.SlotAnswer.{SlotAnswer}
 use Rattle.ledger.specs.Sleep.{SleepTest}
 use Rattle.ledger.specs.Count.{Counted}
 use Rattle.ledger.specs.Promise.{LedgeredBy, AskedCheck, ShownBy}
-use Rattle.ledger.proofs.Count.{count-unique}
 use Rattle.ledger.proofs.Fills.{fills-unique}
 
 counted-unique : {test : SleepTest} {slots : ℕ} {row : ℕ → ℕ} {c d : Counts} → Counted test slots row c → Counted test slots row d → c ≡ d

@@ -4,11 +4,12 @@ use mathlib.Core.Path.{_≡_, _∙_}
 use mathlib.Core.Bool.{cond}
 use native.Mathlib.Omega.{arith}
 use Rattle.checks.specs.steps.FirstOrEnd.{FirstOrEnd}
+use Rattle.day.specs.Count.{counted-none}
 use Rattle.day.proofs.Cases.{give, on, on-eq}
 use Rattle.ledger.specs.declared.Counts.{Counts}
 use Rattle.ledger.specs.Sleep.{SleepTest}
 use Rattle.ledger.specs.Fills.{Empty, Busy, InGap, by-job, before-first, after-last, in-awake, in-asleep}
-use Rattle.ledger.specs.Count.{counted-none, Counted}
+use Rattle.ledger.specs.Count.{Counted}
 use Rattle.ledger.proofs.InGap.{in-gap}
 use Rattle.ledger.proofs.Fills.{not-busy}
 use Rattle.ledger.proofs.CountedAs.{gain, CountedTo, counted-to-end, counts-as, counted-block}

@@ -1,17 +1,12 @@
 -- The five counts of the ledger: how many slots of the day are filled so.
-use Prim.Native.Nat.{ℕ, suc}
+use Prim.Native.Nat.{ℕ}
 use mathlib.Core.Path.{_≡_}
+use Rattle.day.specs.Count.{Count}
 use Rattle.ledger.specs.declared.Fill.{Fill}
 use Rattle.ledger.specs.declared.Fill.the-variants.{Job, Before, Awake, Asleep, After}
 use Rattle.ledger.specs.declared.Counts.{Counts}
 use Rattle.ledger.specs.Sleep.{SleepTest}
 use Rattle.ledger.specs.Fills.{Fills}
-
--- of the numbers below m, c have the property
-pub data Count (P : ℕ → Type 0) : ℕ → ℕ → Type 0 where
-  counted-none : Count P 0 0
-  counted : {m c : ℕ} → Count P m c → P m → Count P (suc m) (suc c)
-  passed-over : {m c : ℕ} → Count P m c → (P m → ⊥) → Count P (suc m) c
 
 -- the count, in document 01's order, that a slot so filled belongs to
 abbrev pub counted-as : Fill → ℕ

@@ -15,8 +15,8 @@ use Rattle.checks.specs.Answer.{done}
 use Rattle.checks.specs.Refusal.{_then_, Passed}
 use Rattle.checks.specs.Check.{most-slots, most-jobs, TimesCheck, GoodRows}
 use Rattle.day.proofs.Cases.{give, on, on-le}
-use Rattle.checks.proofs.Refusal.{IsCheck, refuses-row-is-check, then-is-check, passed-clear, clear-first, clear-next, no-fault, no-row-at-fault}
-use Rattle.checks.proofs.Check.{times-is-check, clear-good-rows}
+use Rattle.checks.proofs.Refusal.{IsCheck, refuses-row-is-check, then-is-check, passed-clear, clear-first, clear-next, no-row-at-fault}
+use Rattle.checks.proofs.Check.{times-is-check, clear-slots, clear-good-rows}
 use Rattle.moving.specs.Moving.{WindowLeaves, MoveCheck, RowsMoved}
 use Rattle.moving.specs.steps.Movable.{Movable}
 use Rattle.moving.proofs.Signs.{below, not-below, shift-keeps-order}
@@ -82,7 +82,7 @@ acceptable {slots} {by} {w} a p e =
     give (clear-good-rows (clear-next (clear-first clear)))
     (λ good.
     record {
-      slots-limit = on-le slots most-slots (λ h. h) (λ h. absurd (no-fault (clear-first (clear-first clear)) (inr h)));
+      slots-limit = clear-slots (clear-first (clear-first clear)) .1;
       rows = good;
       stay = λ i h.
           stays (good .window i h)

@@ -4,6 +4,7 @@ use crate::direct;
 use crate::slow;
 use checks::Answer;
 use checks::code;
+use crowd::CrowdedSpan;
 use day::at_or_zero;
 use day::lesser;
 use day::wide;
@@ -44,6 +45,31 @@ fn gives(
         table,
     );
     same_answer(given, answer) && same_numbers(written, starts)
+}
+
+// Whether the search for a crowded span answers what the slow planner's answer and the walk over all spans say.
+pub(crate) fn crowded(case: &[u16], planned: Answer) -> bool {
+    if planned.code == code::BAD_ROW {
+        return shows_span(case, planned, direct::no_span());
+    }
+    let span = direct::crowded(case);
+    if planned.code == code::NO_PLAN {
+        return span.jobs > 0 && shows_span(case, Answer::of(code::DONE), span);
+    }
+    span.jobs == 0 && shows_span(case, Answer::of(code::PLAN_EXISTS), span)
+}
+
+// Whether the search for a crowded span gives this answer and this span.
+pub(crate) fn shows_span(case: &[u16], answer: Answer, span: CrowdedSpan) -> bool {
+    let given = crowd::crowded_span(
+        at_or_zero(case, case::SLOTS),
+        case::releases(case),
+        case::deadlines(case),
+    );
+    same_answer(given.answer, answer)
+        && given.span.begin == span.begin
+        && given.span.end == span.end
+        && given.span.jobs == span.jobs
 }
 
 // Whether pricing gives this answer.

@@ -1,6 +1,7 @@
 // A case is a list of numbers as a line of the file `stdin` has them: at the first places the number of jobs, T, L, the places of the work table, and
-// the answer's code, first and second number; after them the releases, the deadlines and the starts.
+// the answer's code, first and second number; after them the releases, the deadlines, and the starts or a crowded span.
 use checks::Answer;
+use crowd::CrowdedSpan;
 use day::Day;
 use day::Power;
 use day::at_or_zero;
@@ -56,6 +57,16 @@ pub(crate) fn deadlines(case: &[u16]) -> &[u16] {
 
 pub(crate) fn starts(case: &[u16]) -> &[u16] {
     part(case, ROWS + 2 * count(case), case.len())
+}
+
+// The crowded span that stands in place of the starts.
+pub(crate) fn span(case: &[u16]) -> CrowdedSpan {
+    let span = starts(case);
+    CrowdedSpan {
+        begin: at_or_zero(span, 0),
+        end: at_or_zero(span, 1),
+        jobs: at_or_zero(span, 2),
+    }
 }
 
 // The numbers of a list from one place to another; as many of them as there are.

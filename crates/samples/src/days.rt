@@ -129,13 +129,14 @@ fn between(from: u16, to: u16) -> u16 {
     0
 }
 
-// Compares one day: its plan, two claimed plans, and the choice between them.
+// Compares one day: its plan, its crowded span, two claimed plans, and the choice between them.
 fn compare(tally: Tally, numbers: &[u16; 17], table: &mut [u16]) -> Tally {
     let case = case::part(numbers, 0, 17);
     let found = slow::plan(case);
     let answer = found.answer;
     let best = found.starts;
     let right = beside::planned(case, answer, &best, table)
+        && beside::crowded(case, answer)
         && same_claims(draw::scrambled(tally.run), case, &best);
     tally::after(tally, answer.code, right)
 }

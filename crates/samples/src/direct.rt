@@ -1,7 +1,9 @@
-// What documents 01 and 02 say of a plan, counted directly: each function looks at the rows anew, and none uses the planner's ways.
+// What documents 01 and 02 say of a plan and of a crowded span, counted directly: each function looks at the rows anew, and none uses the
+// library's ways.
 use crate::case;
 use checks::Answer;
 use checks::code;
+use crowd::CrowdedSpan;
 use day::at_or_zero;
 use day::wide;
 use std::num::wrapping_add_u16;
@@ -186,4 +188,60 @@ pub(crate) fn fill(case: &[u16], starts: &[u16], answer: Answer, slot: u16) -> u
         return AWAKE;
     }
     ASLEEP
+}
+
+// The first crowded span of a walk over all spans, by length and then by begin; zeros where none is crowded.
+pub(crate) fn crowded(case: &[u16]) -> CrowdedSpan {
+    let slots = at_or_zero(case, case::SLOTS);
+    let mut length = 0;
+    while length < slots {
+        length += 1;
+        let span = crowded_of(case, length);
+        if span.jobs > 0 {
+            return span;
+        }
+    }
+    no_span()
+}
+
+// The zeros that stand for "no span".
+pub(crate) fn no_span() -> CrowdedSpan {
+    CrowdedSpan {
+        begin: 0,
+        end: 0,
+        jobs: 0,
+    }
+}
+
+// The first crowded span of a length, by begin; zeros where none is crowded.
+fn crowded_of(case: &[u16], length: u16) -> CrowdedSpan {
+    let slots = at_or_zero(case, case::SLOTS);
+    let mut begin = 0;
+    while begin < slots {
+        let end = wrapping_add_u16(begin, length);
+        let jobs = inside(case, begin, end);
+        if jobs > length && end <= slots {
+            return CrowdedSpan { begin, end, jobs };
+        }
+        begin += 1;
+    }
+    no_span()
+}
+
+// How many rows have their whole window in the slots `begin` to `end` - 1.
+fn inside(case: &[u16], begin: u16, end: u16) -> u16 {
+    let mut jobs = 0;
+    let mut row = 0;
+    while row < case::count(case) {
+        if is_inside(case, begin, end, row) {
+            jobs = wrapping_add_u16(jobs, 1);
+        }
+        row += 1;
+    }
+    jobs
+}
+
+// Whether a row has its whole window in the slots `begin` to `end` - 1.
+fn is_inside(case: &[u16], begin: u16, end: u16, row: usize) -> bool {
+    at_or_zero(case::releases(case), row) >= begin && at_or_zero(case::deadlines(case), row) <= end
 }

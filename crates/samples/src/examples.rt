@@ -1,5 +1,5 @@
-// Examples of documents 01 and 02 that are not proved of the definitions: limits, refusals, slips, what fills the slots of a plan, and the
-// program's answers to files. They are read from standard input; the file `stdin` has them, and says what stands in a line.
+// Examples of documents 01 and 02 that are not proved of the definitions: limits, refusals, slips, crowded spans, what fills the slots of a
+// plan, and the program's answers to files. They are read from standard input; the file `stdin` has them, and says what stands in a line.
 use crate::beside;
 use crate::case;
 use crate::direct;
@@ -91,6 +91,9 @@ fn is_answered(kind: u8, case: &[u16], table: &mut [u16]) -> bool {
     let starts = case::starts(case);
     if kind == b'p' {
         return beside::planned(case, answer, starts, table);
+    }
+    if kind == b'w' {
+        return beside::shows_span(case, answer, case::span(case));
     }
     beside::priced(case, answer, starts)
 }
