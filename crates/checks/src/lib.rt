@@ -1,4 +1,6 @@
 // The checks that entry points share, in what they answer: codes 1 to 4, with the limits of document 01.
+#![tactic(auto)]
+
 pub mod code;
 
 ghost use Rattle.std.specs.Prelude.{◌≡◌, length};
@@ -13,7 +15,7 @@ use day::{Day, Power, at_or_zero, lesser, wide};
 
 // A code and two numbers; a number that the code doesn't name is 0.
 #[repr(C)]
-#[derive(Drop)]
+#[derive(Clone, Copy)]
 pub struct Answer {
     pub code: u16,
     pub first: u16,

@@ -183,13 +183,13 @@ pub pigeonhole : {P : ℕ → Type 0} {n c : ℕ} (place : ℕ → ℕ) (begin m
     → Count P n c
     → c ≤ m
 pigeonhole place begin zero within apart p = omega (arith, count_never (λ i l h. omega (arith, within i l h)) p)
-pigeonhole place begin (suc m) within apart p =
+pigeonhole {P = P} place begin (suc m) within apart p =
     give (count_divided {Q = λ i. place i ≡ begin + m} (λ i. on_eq (place i) (begin + m) inl inr) p)
     (λ d.
     omega (
       arith,
       d.sum,
       count_one (λ i j l k h g. apart i j l k h.0 g.0 (h.1 ∙ sym g.1)) d.counted_with,
-      pigeonhole place begin m (λ i l h. ((within i l h.0).0, omega (arith, (within i l h.0).1, h.1)))
+      pigeonhole {P = λ x. P x × (place x ≡ begin + m → ⊥)} place begin m (λ i l h. ((within i l h.0).0, omega (arith, (within i l h.0).1, h.1)))
           (λ i j l k h g. apart i j l k h.0 g.0) d.counted_without,
     ))

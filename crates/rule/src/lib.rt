@@ -1,1 +1,2 @@
 // Why the cost table's rule is right: definitions and theorems alone, no code.
+#![tactic(auto)]
