@@ -1,4 +1,6 @@
 // One engine for every table: it fills a table by the rule, for any problem of the rule, any layout and any width.
+#![tactic(auto)]
+
 ghost use Rattle.std.specs.Prelude.{◌≡◌, ◌<◌, length};
 ghost use Rattle.day.specs.Windows.{at};
 
@@ -8,7 +10,7 @@ pub mod mark;
 pub mod square;
 
 // The shape of a table: how many points there are, how many places a level has, and the number that stands for "none".
-#[derive(Drop)]
+#[derive(Clone, Copy)]
 pub struct Shape {
     pub points: usize,
     pub level: usize,

@@ -1,4 +1,6 @@
 // Jobs in number order: what rows hold as points, and from what is found back to cost and starts in row order.
+#![tactic(auto)]
+
 ghost use Rattle.std.specs.Prelude.{◌≡◌, ℕ, ◌-◌, ◌<◌, ◌≤◌, length};
 ghost use Rattle.day.specs.Windows.{at};
 ghost use Rattle.checks.specs.Check.{most_wake, most_jobs};

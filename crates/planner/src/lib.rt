@@ -1,4 +1,6 @@
 // The plan: checks, the cost table, read-back.
+#![tactic(auto)]
+
 mod price;
 
 ghost use Rattle.std.specs.Prelude.{◌≡◌, ℕ, ◌+◌, ◌-◌, ◌<◌, ◌≤◌, List, length};
@@ -24,7 +26,7 @@ use engine::Shape;
 const NONE: u16 = 16000;
 
 // What is found of jobs in number order: the value of the whole day, and the starts by number, 0 where there is no plan.
-#[derive(Drop)]
+#[derive(Clone, Copy)]
 pub struct Found {
     pub value: u16,
     pub starts: [u16; 40],

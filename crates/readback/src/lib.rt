@@ -1,4 +1,6 @@
 // Reading the plan back from a table that the engine has filled, for any problem of the rule, any layout and any width.
+#![tactic(auto)]
+
 ghost use Rattle.std.specs.Prelude.{◌≡◌, ◌+◌, ◌<◌, ◌≤◌, length};
 ghost use Rattle.day.specs.Windows.{at};
 ghost use Rattle.rule.specs.Span.{Problem};
@@ -12,7 +14,7 @@ ghost use Rattle.readback.specs.steps.Highest.{Tells, UpToInside};
 use engine::{Shape, bands, wide_at};
 
 // A split of a span: its place, and the values of the two sides.
-#[derive(Drop)]
+#[derive(Clone, Copy)]
 pub struct Split {
     pub point: usize,
     pub left: u16,

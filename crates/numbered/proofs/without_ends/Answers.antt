@@ -1,0 +1,24 @@
+-- `numbered::without_ends` meets its contract: with no jobs nothing comes off. Assumes nothing.
+use mathlib.Core.Path.{sym}
+use native.Mathlib.Omega.{arith}
+use Rattle.rule.proofs.Ends.{without_ends_none, without_ends_some}
+use Rattle.numbered.proofs.without_ends.Goals as goal
+
+pub returns-then-count-eq0 : goal.returns-then-count-eq0
+returns-then-count-eq0 c = rw c.if-count-eq0.true (sym (without_ends_none c.args.day c.args.value))
+
+pub returns-then-value-ends : goal.returns-then-value-ends
+returns-then-value-ends c =
+    omega (
+      arith,
+      without_ends_some c.args.day c.args.count
+          c.args.value (omega arith),
+    )
+
+pub returns : goal.returns
+returns c =
+    omega (
+      arith,
+      without_ends_some c.args.day c.args.count
+          c.args.value (omega arith),
+    )
