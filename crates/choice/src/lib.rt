@@ -1,4 +1,6 @@
 // The choice between two claimed plans for one list: which of them wins.
+#![tactic(auto)]
+
 ghost use Rattle.day.specs.Windows.{windows};
 ghost use Rattle.choice.specs.Choice.{ChoicePromise, PartPromise};
 ghost use Rattle.choice.specs.steps.Compared.{Compared};

@@ -1,4 +1,6 @@
 // Claimed plans: how a plan for a list is judged, and what it costs.
+#![tactic(auto)]
+
 mod check;
 pub mod slots;
 
@@ -12,7 +14,7 @@ use checks::{Answer, code};
 use day::Day;
 
 // A claimed plan, judged: the answer, and the row, counted from 1, that stands in each slot; 0 where none does, and everywhere under a refusal.
-#[derive(Drop)]
+#[derive(Clone, Copy)]
 pub struct Claimed {
     pub answer: Answer,
     pub rows: [u16; 96],

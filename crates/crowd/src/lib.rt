@@ -1,4 +1,6 @@
 // Why a list has no plan: a crowded span, slots in which more jobs have their whole window than there are slots.
+#![tactic(auto)]
+
 ghost use Rattle.std.specs.Prelude.{◌≤◌, ◌≡◌, length};
 ghost use Rattle.day.specs.Windows.{windows};
 ghost use Rattle.checks.specs.Check.{most_jobs, most_slots, GoodRows};
@@ -12,7 +14,7 @@ use day::{at_or_zero, lesser, wide};
 
 // The slots `begin` to `end` - 1, and how many jobs have their whole window there.
 #[repr(C)]
-#[derive(Drop)]
+#[derive(Clone, Copy)]
 pub struct CrowdedSpan {
     pub begin: u16,
     pub end: u16,
@@ -21,7 +23,7 @@ pub struct CrowdedSpan {
 
 // The answer to the question why there is no plan; the span is all zeros where there is one, and under any other refusal.
 #[repr(C)]
-#[derive(Drop)]
+#[derive(Clone, Copy)]
 pub struct CrowdAnswer {
     pub answer: Answer,
     pub span: CrowdedSpan,

@@ -1,4 +1,6 @@
 // The cut list: what the hour leaves of a list whose plan is held.
+#![tactic(auto)]
+
 ghost use Rattle.std.specs.Prelude.{◌≡◌, min};
 ghost use Rattle.checks.specs.Check.{most_jobs};
 ghost use Rattle.cutlist.specs.Cut.{is_done, raised, cut_release, cut_deadline};

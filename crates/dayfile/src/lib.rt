@@ -1,4 +1,6 @@
 // The day file: free notes come first, a row for each job next, a trailer of 10 bytes last. Numbers have two bytes, the low one first.
+#![tactic(auto)]
+
 pub mod reader;
 
 pub use reader::{Reading, read};

@@ -14,7 +14,7 @@ use day::{Day, Power, lesser, wide};
 
 // What the reader gives beside the rows that it fills.
 #[repr(C)]
-#[derive(Drop)]
+#[derive(Clone, Copy)]
 pub struct Reading {
     pub answer: Answer,
     pub count: u16,

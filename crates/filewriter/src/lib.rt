@@ -1,4 +1,6 @@
 // Writing a day file.
+#![tactic(auto)]
+
 ghost use Rattle.std.specs.Prelude.{◌≡◌, ◌++◌, ◌+◌, ◌*◌, ◌<◌, ◌≤◌, length};
 ghost use Rattle.checks.specs.Answer.{says};
 ghost use Rattle.checks.specs.Refusal.{◌then◌, Passed};

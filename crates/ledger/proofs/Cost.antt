@@ -63,11 +63,11 @@ module _ {test : SleepTest} {slots : ℕ} {row : ℕ → ℕ} where
       rw (gaps_since_none (holds_job row) empty slot) (omega (arith, total_none (awake_slots test)))
       in
       rw all (walked_end p (omega arith)).awake
-  awake_counted {awake = awake} {empty = empty} (suc m) slot e p =
+  awake_counted {job = job} {awake = awake} {empty = empty} (suc m) slot e p =
       on_eq (row slot) 0
       (λ here.
       rw (gaps_since_empty (holds_job row) empty slot m (holds_job_false row slot here))
-      (awake_counted m (suc slot) (omega arith)
+      (awake_counted {awake = awake} {empty = suc empty} m (suc slot) (omega arith)
       (rw (add-one slot) at (walked_empty {empty-after = suc empty} p (omega arith) here (sym (add-one empty))))))
       (λ busy.
       let rest : ℕ = total (awake_slots test) (gaps_since (holds_job row) 0 (suc slot) m) in
@@ -76,7 +76,7 @@ module _ {test : SleepTest} {slots : ℕ} {row : ℕ → ℕ} where
       (omega (arith, total_awake_ended test empty (gaps_since (holds_job row) 0 (suc slot) m)))
       in
       rw sum
-      (awake_counted m (suc slot) (omega arith) (rw (add-one slot) at (walked_job {awake-after = awake + awake_slots test empty} {empty-after = 0} p
+      (awake_counted {job = job + 1} {awake = awake + awake_slots test empty} {empty = 0} m (suc slot) (omega arith) (rw (add-one slot) at (walked_job {awake-after = awake + awake_slots test empty} {empty-after = 0} p
       (omega arith) busy refl refl refl refl refl))))
 
   -- the awake slots are those of the gaps

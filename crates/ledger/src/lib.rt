@@ -1,4 +1,6 @@
 // The slot ledger: what fills each slot of a day, by a claimed plan.
+#![tactic(auto)]
+
 mod walk;
 
 ghost use Rattle.day.specs.Windows.{windows};
@@ -9,7 +11,7 @@ use checks::{Answer, code};
 use day::Day;
 
 // What fills a slot: the job of a row, counted from 1; the machine before the first job, awake or asleep in a gap, or after the last job.
-#[derive(Drop)]
+#[derive(Clone, Copy)]
 pub enum Fill {
     Job(u16),
     Before,
@@ -19,14 +21,14 @@ pub enum Fill {
 }
 
 // A slot and what fills it.
-#[derive(Drop)]
+#[derive(Clone, Copy)]
 pub struct SlotFill {
     pub slot: u16,
     pub fill: Fill,
 }
 
 // The answer to the question what fills a slot.
-#[derive(Drop)]
+#[derive(Clone, Copy)]
 pub struct SlotAnswer {
     pub answer: Answer,
     pub held: SlotFill,
@@ -34,7 +36,7 @@ pub struct SlotAnswer {
 
 // How many slots of the day are filled by each.
 #[repr(C)]
-#[derive(Drop)]
+#[derive(Clone, Copy)]
 pub struct Counts {
     pub before: u16,
     pub job: u16,
@@ -45,7 +47,7 @@ pub struct Counts {
 
 // The answer of the ledger.
 #[repr(C)]
-#[derive(Drop)]
+#[derive(Clone, Copy)]
 pub struct LedgerAnswer {
     pub answer: Answer,
     pub counts: Counts,

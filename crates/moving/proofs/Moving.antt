@@ -9,7 +9,7 @@ use lib.IntN.{ℤ, pos, negsuc, ◌+ℤ◌}
 use lib.Signed.{lt_z, ◌<ℤ◌}
 use borrow.Author.Tests.{lt-ltb, le-ltb}
 use Rattle.checks.specs.declared.Answer.{Answer}
-use Rattle.day.specs.Windows.{Windows, at, windows}
+use Rattle.day.specs.Windows.{Windows, windows}
 use Rattle.day.specs.Moved.{Shifts, Moved}
 use Rattle.checks.specs.Answer.{done}
 use Rattle.checks.specs.Refusal.{◌then◌, Passed}

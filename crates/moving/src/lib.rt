@@ -1,4 +1,6 @@
 // Moving a list: all windows go earlier or later by a signed number of slots, in the caller's own list.
+#![tactic(auto)]
+
 ghost use Rattle.std.specs.Prelude.{◌≡◌, ◌≤◌, length, pos, ◌+ℤ◌};
 ghost use Rattle.day.specs.Windows.{windows};
 ghost use Rattle.checks.specs.Refusal.{◌then◌, Passed};
