@@ -10,7 +10,7 @@ use lib.IntN.{ℤ}
 use lib.Seq.{get_or-take, length-take-le}
 use Rattle.checks.specs.declared.Answer.{Answer}
 use Rattle.day.specs.declared.Job.{Job}
-use Rattle.day.specs.Windows.{Windows, at, windows}
+use Rattle.day.specs.Windows.{Windows, windows}
 use Rattle.checks.specs.Answer.{done}
 use Rattle.checks.specs.Check.{most_jobs, TimesCheck}
 use Rattle.checks.specs.Refusal.{◌then◌, stops, goes_on, Passed}

@@ -8,7 +8,7 @@ use ledger::{Fill, SlotAnswer};
 
 // What fills the slot is named by the ledger's count that it belongs to, counted from 0; `row` is the job's, counted from 1, or 0 where no job stands.
 #[repr(C)]
-#[derive(Drop)]
+#[derive(Clone, Copy)]
 pub struct SlotNumbers {
     pub answer: Answer,
     pub slot: u16,

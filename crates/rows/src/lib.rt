@@ -1,11 +1,13 @@
 // The rows of a lent list of job records, by value: copied out of the list, and put back over it.
+#![tactic(auto)]
+
 ghost use Rattle.std.specs.Prelude.{◌≡◌, ◌<◌};
 ghost use Rattle.rows.specs.Rows.{copy_count, no_rows, with_job, rows_of, put_count, job_at, put_over};
 
 use day::{Job, lesser};
 
 // What the number forms work on: one row more than a day's list may have, so that a list that is too long is seen.
-#[derive(Drop)]
+#[derive(Clone, Copy)]
 pub struct Rows {
     pub count: usize,
     pub releases: [u16; 41],
