@@ -12,7 +12,7 @@ use Rattle.ledger.specs.Promise.{plan_row}
 use Rattle.ledger.proofs.CountedAs.{gain}
 use Rattle.demands.specs.ExamplesTable.{P8}
 use Rattle.demands.specs.ExamplesOfClaims.{Claim, claim_of}
-use Rattle.demands.specs.ExamplesOfLedger.{LedgersTo, ledger_with, FilledAs, ◌at-slot◌, slot_with}
+use Rattle.demands.specs.ExamplesOfLedger.{LedgersTo, ledger_with, FilledAs, ◌at_slot◌, slot_with}
 use Rattle.demands.specs.GapOfWake.{asleep_in_01, LedgerPromiseIn01, SlotPromiseIn01, InGapOfWake, LedgersOfBoth}
 use Rattle.demands.proofs.Test.{both}
 use Rattle.demands.proofs.ExamplesOfLedger.{gap_test, ledger_test, slot_test}

@@ -63,8 +63,8 @@ pub record Asked : Type 0 where
   pub claim : Claim
   pub slot : ℕ
 
-infix 69 ◌at-slot◌
-abbrev pub ◌at-slot◌ : Claim → ℕ → Asked
+infix 69 ◌at_slot◌
+abbrev pub ◌at_slot◌ : Claim → ℕ → Asked
 claim at_slot slot = record { claim = claim; slot = slot }
 
 abbrev pub FilledAs : Asked → SlotAnswer → Type 0

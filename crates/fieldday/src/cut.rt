@@ -18,7 +18,7 @@ use cutlist::CutRows;
 use day::wide;
 
 // The answer of planning a cut list, and the starts after it.
-#[derive(Drop)]
+#[derive(Clone, Copy)]
 pub struct Replanned {
     pub answer: Answer,
     pub starts: [u16; 40],

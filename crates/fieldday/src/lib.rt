@@ -1,5 +1,7 @@
 // A day that is walked through in the field: a list, the plan held, and the current slot. It goes in by value and comes back by value, and every call
 // judges it anew.
+#![tactic(auto)]
+
 mod cut;
 mod held;
 
@@ -10,7 +12,7 @@ use day::Day;
 
 // The first `count` places are the jobs' rows and their starts.
 #[repr(C)]
-#[derive(Drop)]
+#[derive(Clone, Copy)]
 pub struct FieldDay {
     pub day: Day,
     pub slot: u16,
@@ -22,7 +24,7 @@ pub struct FieldDay {
 
 // The answer of a call, and the day held after it.
 #[repr(C)]
-#[derive(Drop)]
+#[derive(Clone, Copy)]
 pub struct FieldAnswer {
     pub answer: Answer,
     pub held: FieldDay,

@@ -1,4 +1,6 @@
 // A day file's bytes to the text that the program prints; no system call.
+#![tactic(auto)]
+
 ghost use Rattle.std.specs.Prelude.{◌≡◌};
 ghost use Rattle.day.specs.Windows.{windows};
 ghost use Rattle.report.specs.File.{no_outcome, FilePromise, InputReported, ReportPromise};

@@ -1,4 +1,6 @@
 // The printed text: code and first number, a line for each row, a line for the ledger.
+#![tactic(auto)]
+
 ghost use Rattle.std.specs.Prelude.{◌≡◌, ◌+◌, ◌*◌, ◌<◌, ◌≤◌, min, [], ◌∷◌, ◌++◌, length, replicate};
 ghost use Rattle.day.specs.Windows.{at};
 ghost use Rattle.checks.specs.Check.{most_jobs};

@@ -4,14 +4,10 @@ use native.Mathlib.Omega.{arith}
 use borrow.Author.Rules.{rules}
 use lib.ListN.{length}
 use Rattle.checks.specs.Check.{most_jobs}
-use Rattle.fieldday.proofs.held.held_at.Statement.{statement}
-use Rattle.fieldday.proofs.held.held_at.Tie as tie
+use Rattle.fieldday.proofs.held.held_at.Goals as goal
 
-day-of-requires : tie.Need-day-of-requires
-day-of-requires c κs =
-    let f = c.before.before.before.before.before.args.field in
+pub day_of-requires : goal.day_of-requires
+day_of-requires c =
+    let f = c.args.field in
     let places : (length f.releases ≡ most_jobs) × (length f.deadlines ≡ most_jobs) = (search rules, search rules) in
     (search rules, omega arith, omega arith, search rules)
-
-pub held_at_spec : {M : Type 1} → statement M
-held_at_spec = tie.close (tie.spec (λ c. search rules) (λ c. search rules) day-of-requires (λ c. search rules))
