@@ -1,9 +1,12 @@
 // Reads a day file on standard input and writes its plan to standard output. A read that fails is never planned, and output that is lost is
 // told: either is one line on standard error, by which the script that starts the program knows.
+#![tactic(auto)]
+
 ghost use Rattle.std.specs.Prelude.{◌≡◌, ◌+◌, length};
 ghost use Rattle.report.specs.File.{most_bytes};
 ghost use Rattle.dayplan.specs.Program.{Printed};
 
+use std::io::Write;
 use streams::read::Input;
 use streams::{read, write};
 use text::Text;
@@ -23,25 +26,25 @@ fn printed(file: &[u8]) -> Text
     report::report(file, &mut places)
 }
 
-fn main() {
+fn main(rt: HostRuntime) {
     let mut file = input();
-    match read::read_whole(&mut file) {
-        Input::Whole(length) => print(&file[..length]),
-        Input::Failed => complain(b"dayplan: the input can't be read.\n"),
+    match read::read_whole(&mut rt.stdin(), &mut file) {
+        Input::Whole(length) => print(&mut rt.stdout(), &mut rt.stderr(), &file[..length]),
+        Input::Failed => complain(&mut rt.stderr(), b"dayplan: the input can't be read.\n"),
     }
 }
 
 // Writes the text for a whole input.
-fn print(file: &[u8]) {
+fn print(output: &mut impl Write, errors: &mut impl Write, file: &[u8]) {
     let text = printed(file);
     let bytes = text.bytes;
     let end = text.len;
-    if !write::write_whole(libc::STDOUT_FILENO, &bytes[..end]) {
-        complain(b"dayplan: the plan can't be written whole.\n");
+    if !write::write_whole(output, &bytes[..end]) {
+        complain(errors, b"dayplan: the plan can't be written whole.\n");
     }
 }
 
 // Writes a line to standard error. If that fails too, there is nobody left to tell.
-fn complain(line: &[u8]) {
-    write::write_whole(libc::STDERR_FILENO, line);
+fn complain(errors: &mut impl Write, line: &[u8]) {
+    write::write_whole(errors, line);
 }

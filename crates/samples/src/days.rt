@@ -10,18 +10,18 @@ const DRAWN: u64 = 327680;
 const ALL: u64 = 331680;
 
 // A window, and the number or key that is left for the next.
-#[derive(Drop)]
+#[derive(Clone, Copy)]
 pub struct Window {
     pub release: u16,
     pub deadline: u16,
     pub left: u64,
 }
 
-pub(crate) fn run(table: &mut [u16]) {
+pub(crate) fn run(rt: &impl Print, table: &mut [u16]) {
     let tally = compare_all(table);
-    tally::print(b"days compared ", tally);
-    tally::line(b"refused ", tally.refused);
-    tally::line(b"without a plan ", tally.without);
+    tally::print(rt, b"days compared ", tally);
+    tally::line(rt, b"refused ", tally.refused);
+    tally::line(rt, b"without a plan ", tally.without);
 }
 
 fn compare_all(table: &mut [u16]) -> Tally {

@@ -23,7 +23,7 @@ pub const AFTER: u16 = 4;
 pub const JOB: u16 = 5;
 
 // The empty slots around a slot: from the one after the latest job before it, or 0, to the earliest job after it, or NOWHERE.
-#[derive(Drop)]
+#[derive(Clone, Copy)]
 pub struct Gap {
     pub since: u16,
     pub next: u16,

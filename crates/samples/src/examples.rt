@@ -4,14 +4,23 @@ use crate::tally::Tally;
 use crate::{beside, case, direct, tally};
 use checks::code;
 use day::{at_or_zero, lesser, wide};
-use libc::STDIN_FILENO;
 use std::num::{wrapping_add_u16, wrapping_add_usize};
+use streams::read;
 
 // Runs every example.
-pub(crate) fn run(table: &mut [u16]) {
-    let mut text = io::large_buffer();
-    let length = io::read_full(STDIN_FILENO, &mut text);
-    tally::print(b"examples ", run_lines(part(&text, 0, length), table));
+pub(crate) fn run(rt: &(impl Input + Print), table: &mut [u16]) {
+    let mut text = [0u8; 65536];
+    let length = length_of(read::read_whole(&mut rt.reader(), &mut text));
+    let tally = run_lines(part(&text, 0, length), table);
+    tally::print(rt, b"examples ", tally);
+}
+
+// How many bytes were read; none where reading failed.
+fn length_of(input: read::Input) -> usize {
+    match input {
+        read::Input::Whole(length) => length,
+        read::Input::Failed => 0,
+    }
 }
 
 fn run_lines(text: &[u8], table: &mut [u16]) -> Tally {

@@ -1,5 +1,7 @@
 // Runs the examples of documents 01 and 02 that aren't proved of the definitions, and compares the planner and its companions with a slow
 // search over all plans and with direct counting, on small days.
+#![tactic(auto)]
+
 mod beside;
 mod case;
 mod days;
@@ -18,8 +20,8 @@ fn table() -> [u16; 30625]
     [0; 30625]
 }
 
-fn main() {
+fn main(rt: HostRuntime) {
     let mut places = table();
-    examples::run(&mut places);
-    days::run(&mut places);
+    examples::run(&rt, &mut places);
+    days::run(&rt, &mut places);
 }

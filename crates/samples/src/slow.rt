@@ -9,21 +9,21 @@ use std::num::{wrapping_add_u16, wrapping_sub_u16};
 pub const UNTOUCHED: u16 = 9999;
 
 // What the planner has to answer, and the starts that it has to write.
-#[derive(Drop)]
+#[derive(Clone, Copy)]
 pub struct Found {
     pub answer: Answer,
     pub starts: [u16; 5],
 }
 
 // A start vector, and what is left of its number.
-#[derive(Drop)]
+#[derive(Clone, Copy)]
 pub struct Vector {
     pub starts: [u16; 5],
     pub left: u64,
 }
 
 // The highest-numbered job so far on which two plans differ: its deadline, and whether it starts later in the first.
-#[derive(Drop)]
+#[derive(Clone, Copy)]
 pub struct Difference {
     pub deadline: u16,
     pub later: bool,

@@ -1,10 +1,9 @@
 // What was run and what went wrong, counted and printed.
 use checks::code;
-use libc::STDOUT_FILENO;
 use std::num::wrapping_add_u64;
 
 // How many cases were run, how many went wrong and the first of those, how many lists were refused, and how many had no plan.
-#[derive(Drop)]
+#[derive(Clone, Copy)]
 pub struct Tally {
     pub run: u64,
     pub wrong: u64,
@@ -46,17 +45,16 @@ fn counted(count: u64, more: bool) -> u64 {
     count
 }
 
-pub(crate) fn print(word: &[u8], tally: Tally) {
-    line(word, tally.run);
-    line(b"wrong ", tally.wrong);
+pub(crate) fn print(rt: &impl Print, word: &[u8], tally: Tally) {
+    line(rt, word, tally.run);
+    line(rt, b"wrong ", tally.wrong);
     if tally.wrong > 0 {
-        line(b"first wrong ", tally.first);
+        line(rt, b"first wrong ", tally.first);
     }
 }
 
-// A word, a number, and the line's end.
-pub(crate) fn line(word: &[u8], number: u64) {
-    io::write_all(STDOUT_FILENO, word);
-    io::print_decimal(STDOUT_FILENO, number);
-    io::write_all(STDOUT_FILENO, b"\n");
+// A word, a number, and the line's end. A line that is lost shows in what the program wrote.
+pub(crate) fn line(rt: &impl Print, word: &[u8], number: u64) {
+    let _ = rt.write_all(word);
+    let _ = rt.println(number);
 }

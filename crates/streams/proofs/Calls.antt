@@ -12,12 +12,11 @@ use mir.Syntax.{Width, w64}
 use mir.Val.{Fits, SFits, to_z, of_z}
 use mir.ValLaws.{to_z-of_z}
 use borrow.Author.Tests.{ltb-true, ltb-false}
-use Rattle.libc.specs.Io.{Moved}
 use Rattle.streams.specs.declared.call.Came.{Came}
 use Rattle.streams.specs.declared.call.Came.TheVariants.{Bytes, Nothing, Failure}
 use Rattle.streams.specs.declared.call.Turn.{Turn}
 use Rattle.streams.specs.declared.call.Turn.TheVariants.{Again, Over}
-use Rattle.streams.specs.Calls.{Follows, bytes, nothing, again, interrupted_too_often, other_failure}
+use Rattle.streams.specs.Calls.{Follows, bytes, again}
 use Rattle.streams.specs.steps.Room.{Within}
 
 -- a signed number is what its bits read as
@@ -42,17 +41,6 @@ negative_follows (negsuc n) p z f = f n
 -- only fewer than 1,000 retries are followed by another
 pub again_below : {error got : ℤ} {retries : ℕ} → Follows error retries got Again → retries < 1000
 again_below (again n e h) = h
-
-over_moved : {error got : ℤ} {retries : ℕ} {came : Came} (room : ℕ) → Follows error retries got (Over came) → Moved room got → Within room came
-over_moved room (bytes n h) m = (h, m)
-over_moved room nothing m = tt
-over_moved room (interrupted_too_often n e h) m = tt
-over_moved room (other_failure n h) m = tt
-
--- what is over moved at least one byte and no more than C had room for, or none
-pub over_within : {error : ℤ} {retries : ℕ} {came : Came} (room : ℕ) (got : ℤ) → SFits w64 got
-    → Follows error retries (to_z w64 (of_z w64 got)) (Over came) → Moved room got → Within room came
-over_within room got f h m = over_moved room (rw (to_z-of_z w64 got f) at h) m
 
 -- how much of a list lies from a place on
 pub rest_length : (list : List ℕ) (at : ℕ) → at ≤ length list → length (take (length list - at) (drop at list)) ≡ length list - at

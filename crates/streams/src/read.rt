@@ -1,9 +1,11 @@
-// Reading standard input to its end.
+// Reading an input to its end.
 ghost use Rattle.std.specs.Prelude.{◌≡◌, ◌-◌, ◌^◌, length};
+ghost use Rattle.streams.specs.Known.{Reads, ReadsWhole};
 ghost use Rattle.streams.specs.ReadStep.{FitsIn, after_read};
 ghost use Rattle.streams.specs.steps.Room.{Within};
 
-use crate::call::{Came, Turn, judge};
+use crate::call::{Came, Turn, judge, told};
+use std::io::Read;
 
 // What was read: a whole input and its length, or nothing that may be used.
 #[derive(Drop)]
@@ -20,12 +22,13 @@ pub enum ReadStep {
 }
 
 // Reads until the input ends or `file` is full. Nothing else ends an input.
-pub fn read_whole(file: &mut [u8]) -> Input
-    ensures { FitsIn file.new result }
+pub fn read_whole<R: Read>(source: &mut R, file: &mut [u8]) -> Input
+    ensures fits { FitsIn file.new result }
+    ensures bytes { ReadsWhole (R.remaining source.old) (R.remaining source.new) file.new result }
 {
     let mut at: usize = 0;
     while at < file.len() {
-        match advance(at, read_some(&mut file[at..])) {
+        match advance(at, read_some(source, &mut file[at..])) {
             ReadStep::At(next) => at = next,
             ReadStep::Over(input) => return input,
         }
@@ -46,13 +49,14 @@ fn advance(at: usize, came: Came) -> ReadStep
 }
 
 // One read, made again while signals interrupt it.
-fn read_some(room: &mut [u8]) -> Came
-    ensures { Within (length room.new) result }
+fn read_some<R: Read>(source: &mut R, room: &mut [u8]) -> Came
+    ensures within { Within (length room.new) result }
+    ensures bytes { Reads (R.remaining source.old) (R.remaining source.new) room.new result }
 {
     let mut retries: u16 = 0;
     loop {
-        let got = libc::read(libc::STDIN_FILENO, room);
-        match judge(got, os::errno(), retries) {
+        let answer = told(source.read(room));
+        match judge(answer.got, answer.error, retries) {
             Turn::Again => retries += 1,
             Turn::Over(came) => return came,
         }

@@ -1,4 +1,6 @@
 // Runs days in the field beside a slow twin, on small days, and tells one day as a story.
+#![tactic(auto)]
+
 mod beside;
 mod histories;
 mod search;
@@ -7,9 +9,9 @@ mod story;
 mod tally;
 mod twin;
 
-fn main() {
+fn main(rt: HostRuntime) {
     let mut tally = [0u64; 4];
-    story::run(&mut tally);
+    story::run(&rt, &mut tally);
     histories::run(&mut tally);
-    tally::print(&tally);
+    tally::print(&rt, &tally);
 }

@@ -1,7 +1,6 @@
 // What was answered, counted and printed.
 use crate::{state, twin};
 use day::{at_or_zero, lesser, wide};
-use libc::STDOUT_FILENO;
 use std::num::wrapping_add_u64;
 
 // The places of a tally: calls answered 0, refused, offers taken, and calls that went wrong.
@@ -26,16 +25,20 @@ pub(crate) fn count(state: &[u16], kind: u16, right: bool, tally: &mut [u64; 4])
     }
 }
 
-pub(crate) fn print(tally: &[u64; 4]) {
-    say(b"calls wrong ", tally[WRONG]);
-    say(b"\nrefused ", tally[REFUSED]);
-    say(b"\noffers taken ", tally[TAKEN]);
-    say(b"\nothers answered 0 ", tally[DONE]);
-    io::write_all(STDOUT_FILENO, b"\n");
+pub(crate) fn print(rt: &impl Print, tally: &[u64; 4]) {
+    say(rt, b"calls wrong ", tally[WRONG]);
+    say(rt, b"\nrefused ", tally[REFUSED]);
+    say(rt, b"\noffers taken ", tally[TAKEN]);
+    say(rt, b"\nothers answered 0 ", tally[DONE]);
+    say_word(rt, b"\n");
 }
 
-// A word and a number.
-pub(crate) fn say(word: &[u8], number: u64) {
-    io::write_all(STDOUT_FILENO, word);
-    io::print_decimal(STDOUT_FILENO, number);
+// A word and a number. What is lost shows in what the program wrote.
+pub(crate) fn say(rt: &impl Print, word: &[u8], number: u64) {
+    say_word(rt, word);
+    let _ = rt.print(number);
+}
+
+pub(crate) fn say_word(rt: &impl Print, word: &[u8]) {
+    let _ = rt.write_all(word);
 }

@@ -1,0 +1,13 @@
+-- The loop of `streams::read::read_some`: a call is made again only below 1,000 retries, and what is known to come stays. Assumes nothing.
+use Rattle.std.proofs.Common.{◌-◌, ◌≤◌}
+use Rattle.std.specs.Io.KnownBytes.{Keeps}
+use Rattle.streams.proofs.read.read_some.Given as goal
+
+abbrev pub invariant-loop-retries : goal.invariant-loop-retries
+invariant-loop-retries g l = record {
+  few : l.retries ≤ 1000;
+  kept : Keeps (g.R.Read.remaining l.initial.source) (g.R.Read.remaining l.source);
+}
+
+abbrev pub decreases-loop-retries : goal.decreases-loop-retries
+decreases-loop-retries g l = 1000 - l.retries
