@@ -1,5 +1,5 @@
 // How much stack each call of the library takes, with what its caller puts there for it. A call runs on a stack of its own, painted before, and
-// the bytes down to the deepest that it changed are counted. Run, from the repository's root, after rt staticlib chaskuri:
+// the bytes down to the deepest that it changed are counted. Run, from the repository's root, after bin/archive:
 //     gcc -O2 bench/stack.c target/staticlib/libchaskuri.a -o target/stack && target/stack
 #define _XOPEN_SOURCE 700
 #include "../include/chaskuri.h"
