@@ -1,5 +1,5 @@
 /* What the notebook's firmware does in the field: the day of examples/p8.day is opened with the plan that the base sent and walked through, slot
- * by slot, while a job comes in and the base offers plans. Run, from the repository's root, after rt staticlib chaskuri:
+ * by slot, while a job comes in and the base offers plans. Run, from the repository's root, after bin/archive:
  *     cc -O2 examples/fieldday.c target/staticlib/libchaskuri.a -o target/fieldday && target/fieldday */
 #include "../include/chaskuri.h"
 

@@ -1,5 +1,5 @@
 /* What the notebook's firmware does with a day: the list of examples/p8.day is checked, planned, priced, looked at, moved, written and read
- * back; and where a list has no plan, it shows why. Run, from the repository's root, after rt staticlib chaskuri:
+ * back; and where a list has no plan, it shows why. Run, from the repository's root, after bin/archive:
  *     cc -O2 examples/notebook.c target/staticlib/libchaskuri.a -o target/notebook && target/notebook */
 #include "../include/chaskuri.h"
 
