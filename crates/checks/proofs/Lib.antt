@@ -6,3 +6,4 @@ pub mod TooMany
 pub mod Zero
 pub mod Planned
 pub mod Unique
+pub mod Refused

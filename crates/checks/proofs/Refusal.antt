@@ -8,7 +8,6 @@ use Rattle.day.proofs.Cases.{on_le, on_eq}
 use Rattle.checks.specs.declared.Answer.{Answer}
 use Rattle.checks.specs.Answer.{says, done}
 use Rattle.checks.specs.Refusal.{◌then◌, stops, goes_on, Passed, Refuses, First, RefusesRow, FirstPair, RefusesPair}
-use Rattle.checks.specs.steps.FirstOrEnd.{FirstOrEnd}
 
 pub first_unique : {n : ℕ} {Fault : ℕ → Type 0} (i j : ℕ) → First n Fault i → First n Fault j → i ≡ j
 first_unique i j p q =
@@ -85,17 +84,13 @@ module _ {Fault : ℕ → ℕ → Type 0} (known : (i j : ℕ) → Fault i j ⊎
       (λ none. none)
       first_pair_or_none
 
--- a search that ended at a row found the row to refuse
-pub found_refused : {code n : ℕ} {Fault : ℕ → Type 0} (i : ℕ) → FirstOrEnd n Fault i → i < n
-    → RefusesRow code n Fault (says code (i + 1) 0)
-found_refused i f h =
-    record { row = i; first = record { within = h; fault = f.fault h; lowest = f.lowest }; says = refl }
+-- a search that found a row found the row to refuse
+pub found_refused : {code n : ℕ} {Fault : ℕ → Type 0} (i : ℕ) → First n Fault i → RefusesRow code n Fault (says code (i + 1) 0)
+found_refused i f = record { row = i; first = f; says = refl }
 
--- a search that came to the end found nothing to refuse
-pub end_clear : {code n : ℕ} {Fault : ℕ → Type 0} (i : ℕ) → FirstOrEnd n Fault i → i ≡ n → (b : Answer)
-    → RefusesRow code n Fault b
-    → ⊥
-end_clear i f e b r = f.lowest r.row (omega (arith, r.first.within)) r.first.fault
+-- a search that found no row found nothing to refuse
+pub none_clear : {code n : ℕ} {Fault : ℕ → Type 0} → ((j : ℕ) → j < n → Fault j → ⊥) → (b : Answer) → RefusesRow code n Fault b → ⊥
+none_clear none b r = none r.row r.first.within r.first.fault
 
 -- a fault would be refused
 pub no_fault : {code : ℕ} {Fault : Type 0} → ((b : Answer) → Refuses code Fault b → ⊥) → Fault → ⊥

@@ -1,3 +1,4 @@
 -- What functions promise each other, here and above.
 pub mod FirstOrEnd
 pub mod Never
+pub mod FirstIn

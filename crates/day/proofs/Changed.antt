@@ -1,12 +1,13 @@
 -- Laws of lists that are changed in some places: a store changes one, changes follow each other, and what is right decides the list. Assumes
 -- nothing.
-use Prim.Native.Nat.{ℕ, ◌+◌, ◌<◌, ◌≤◌}
-use mathlib.Core.Path.{◌≡◌, refl, sym, ◌∙◌}
+use Prim.Native.Nat.{ℕ, ◌+◌, ◌-◌, ◌<◌, ◌≤◌}
+use mathlib.Core.Path.{◌≡◌, refl, sym, ◌∙◌, ap}
 use mathlib.Core.Logic.{◌⊎◌, inl, inr, ⊎_elim}
-use mathlib.Core.List.{List}
+use mathlib.Core.List.{List, ◌++◌}
 use native.Mathlib.Omega.{arith}
-use lib.ListN.{length, set, length-set}
-use lib.Seq.{get_or-set_same, get_or-set_other, ext_get_or}
+use lib.ListN.{length, set, take, drop, length-set, length-append, get_or-append}
+use lib.Seq.{get_or-set_same, get_or-set_other, ext_get_or, length-take-le}
+use Rattle.std.proofs.lemmas.List.{length-drop, get_or-drop, get_or-append_right}
 use Rattle.day.specs.Windows.{at}
 use Rattle.day.specs.Changed.{Changed, Below, FirstFilled}
 use Rattle.day.proofs.Cases.{on_eq, on_le}
@@ -87,3 +88,21 @@ module _ {Right : ℕ → ℕ → Type 0} {old : List ℕ} where
   -- what stands past the first places
   pub filled_rest : {n : ℕ} {new : List ℕ} → FirstFilled n Right old new → (i : ℕ) → n ≤ i → at new i ≡ at old i
   filled_rest p i l = p.outside i (λ j h e. omega arith)
+
+-- where only the first places were looked at, the rest stays
+pub filled_front : {Right Other : ℕ → ℕ → Type 0} {n : ℕ} {old new : List ℕ} → n ≤ length old
+    → ((i y : ℕ) → i < n → Right i y → Other i y)
+    → FirstFilled n Right (take n old) new → FirstFilled n Other old (new ++ drop n old)
+filled_front {n = n} {old} {new} h same p =
+    let long : length new ≡ n = p.long ∙ length-take-le n old h in
+    record {
+      long = omega (arith, length-append new (drop n old), length-drop n old);
+      inside = λ i l. rw (get_or-append new (drop n old) 0 i (omega arith)) (same i (at new i) l (p.inside i l));
+      outside = λ j none.
+          on_le n j
+          (λ l.
+          get_or-append_right new (drop n old) n j 0 long l
+          ∙ get_or-drop n old (j - n) 0
+          ∙ ap (at old) (omega arith))
+          (λ l. absurd (none j l refl));
+    }

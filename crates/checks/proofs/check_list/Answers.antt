@@ -1,21 +1,22 @@
 -- `checks::check_list` meets its contract. Assumes nothing.
-use Rattle.checks.proofs.Refusal.{then_group, then_refused, then_passed}
+use Rattle.checks.proofs.Refusal.{then_group}
+use Rattle.checks.proofs.Refused.{then_err, then_ok, given_back}
 use Rattle.checks.proofs.Check.{slots_is_check, power_is_check}
 use Rattle.checks.proofs.check_list.Goals as goal
 
-pub returns-then-slots-ne-DONE : goal.returns-then-slots-ne-DONE
-returns-then-slots-ne-DONE c = then_group _ (then_refused _ c.check_slots-slots.ensures c.if-slots-ne-DONE.true)
+pub returns-in_err-check_slots : goal.returns-in_err-check_slots
+returns-in_err-check_slots c =
+    rw (given_back c.from_residual.result c.from_residual.ensures.1)
+    (then_group _ (then_err _ c.in_err-check_slots.ensures))
 
-pub returns-then-power-ne-DONE : goal.returns-then-power-ne-DONE
-returns-then-power-ne-DONE c =
-    then_group _
-    (then_passed slots_is_check _ _ c.check_slots-slots.ensures c.if-slots-ne-DONE.false
-    (then_group _ (then_refused _ c.check_power-power.ensures c.if-power-ne-DONE.true)))
+pub returns-in_err-check_power : goal.returns-in_err-check_power
+returns-in_err-check_power c =
+    rw (given_back c.from_residual-in_err-check_power.result c.from_residual-in_err-check_power.ensures.1)
+    (then_group _
+    (then_ok slots_is_check c.in_ok-check_slots.ensures _ (then_group _ (then_err _ c.in_err-check_power.ensures))))
 
 pub returns : goal.returns
 returns c =
     then_group _
-    (then_passed slots_is_check _ _ c.check_slots-slots.ensures
-    c.if-slots-ne-DONE.false
-    (then_group _
-    (then_passed power_is_check _ _ c.check_power-power.ensures c.if-power-ne-DONE.false c.check_jobs.ensures)))
+    (then_ok slots_is_check c.in_ok-check_slots.ensures _
+    (then_group _ (then_ok power_is_check c.in_ok-check_power.ensures _ c.check_jobs.ensures)))

@@ -1,12 +1,13 @@
 -- `checks::check_times` meets its contract. Assumes nothing.
-use Rattle.checks.proofs.Refusal.{then_group, then_refused, then_passed}
+use Rattle.checks.proofs.Refusal.{then_group}
+use Rattle.checks.proofs.Refused.{then_err, then_ok, given_back}
 use Rattle.checks.proofs.Check.{slots_is_check}
 use Rattle.checks.proofs.check_times.Goals as goal
 
-pub returns-then-day-ne-DONE : goal.returns-then-day-ne-DONE
-returns-then-day-ne-DONE c = then_group _ (then_refused _ c.check_slots-day.ensures c.if-day-ne-DONE.true)
+pub returns-in_err-check_slots : goal.returns-in_err-check_slots
+returns-in_err-check_slots c =
+    rw (given_back c.from_residual.result c.from_residual.ensures.1)
+    (then_group _ (then_err _ c.in_err-check_slots.ensures))
 
 pub returns : goal.returns
-returns c =
-    then_group _
-    (then_passed slots_is_check _ _ c.check_slots-day.ensures c.if-day-ne-DONE.false c.check_jobs.ensures)
+returns c = then_group _ (then_ok slots_is_check c.in_ok-check_slots.ensures _ c.check_jobs.ensures)
