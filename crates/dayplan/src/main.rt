@@ -6,10 +6,26 @@ ghost use Rattle.std.specs.Prelude.{◌≡◌, ◌+◌, length};
 ghost use Rattle.report.specs.File.{most_bytes};
 ghost use Rattle.dayplan.specs.Program.{Printed};
 
-use std::io::Write;
-use streams::read::Input;
+use std::io::{Read, Write};
 use streams::{read, write};
 use text::Text;
+
+// What may fail: the plan is not printed, or not whole.
+#[derive(Clone, Copy)]
+enum Failure {
+    Input,
+    Output,
+}
+
+impl Failure {
+    // The line that tells it.
+    fn line(self) -> &'static [u8] {
+        match self {
+            Failure::Input => b"dayplan: the input can't be read.\n",
+            Failure::Output => b"dayplan: the plan can't be written whole.\n",
+        }
+    }
+}
 
 // A byte more than the longest file that is planned, so that a longer one shows.
 fn input() -> [u8; 4097]
@@ -27,24 +43,20 @@ fn printed(file: &[u8]) -> Text
 }
 
 fn main(rt: HostRuntime) {
-    let mut file = input();
-    match read::read_whole(&mut rt.stdin(), &mut file) {
-        Input::Whole(length) => print(&mut rt.stdout(), &mut rt.stderr(), &file[..length]),
-        Input::Failed => complain(&mut rt.stderr(), b"dayplan: the input can't be read.\n"),
+    if let Err(failure) = print(&mut rt.stdin(), &mut rt.stdout()) {
+        complain(&mut rt.stderr(), failure);
     }
 }
 
-// Writes the text for a whole input.
-fn print(output: &mut impl Write, errors: &mut impl Write, file: &[u8]) {
-    let text = printed(file);
-    let bytes = text.bytes;
-    let end = text.len;
-    if !write::write_whole(output, &bytes[..end]) {
-        complain(errors, b"dayplan: the plan can't be written whole.\n");
-    }
+// Reads the input whole and writes the text for it.
+fn print(source: &mut impl Read, target: &mut impl Write) -> Result<(), Failure> {
+    let mut file = input();
+    let length = read::read_whole(source, &mut file).map_err(|_| Failure::Input)?;
+    let text = printed(&file[..length]);
+    write::write_whole(target, &text.bytes[..text.len]).map_err(|_| Failure::Output)
 }
 
 // Writes a line to standard error. If that fails too, there is nobody left to tell.
-fn complain(errors: &mut impl Write, line: &[u8]) {
-    write::write_whole(errors, line);
+fn complain(errors: &mut impl Write, failure: Failure) {
+    let _ = write::write_whole(errors, failure.line());
 }

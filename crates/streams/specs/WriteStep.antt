@@ -1,12 +1,8 @@
 -- When a text is lost.
-use Rattle.std.specs.Prelude.{ℕ, ◌+◌}
-use Rattle.streams.specs.declared.call.Came.{Came}
-use Rattle.streams.specs.declared.call.Came.TheVariants.{Bytes, Nothing, Failure}
-use Rattle.streams.specs.declared.write.WriteStep.{WriteStep}
-use Rattle.streams.specs.declared.write.WriteStep.TheVariants.{At, Lost}
+use Rattle.std.specs.Prelude.{ℕ, ◌+◌, ◌==◌, if◌then◌else◌, Option, None, Some, Result, Ok, Err}
+use Rattle.std.specs.declared.io.Error.{Error}
 
 -- a write that takes nothing loses the rest, as one that fails
-abbrev pub after_write : ℕ → Came → WriteStep
-after_write at (Bytes n) = At (at + n)
-after_write at Nothing = Lost
-after_write at Failure = Lost
+abbrev pub after_write : ℕ → Result ℕ Error → Option ℕ
+after_write at (Ok n) = if n == 0 then None else Some (at + n)
+after_write at (Err e) = None

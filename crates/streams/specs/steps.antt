@@ -1,3 +1,3 @@
 -- What functions of reading and writing promise each other.
+pub mod Repeats
 pub mod Room
-pub mod Reply

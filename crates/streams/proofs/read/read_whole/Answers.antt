@@ -10,6 +10,6 @@ loop-at-preserved g c =
       within = search rules;
       read =
           reads_on (g.R.Read.remaining c.args.source.now) (g.R.Read.remaining c.loop-at.source) (g.R.Read.remaining c.read_some.new.source) c.loop-at.at
-          c.in-At.next c.read_some.result c.loop-at.file c.read_some.new.room (post_of c.loop-at.at (length c.loop-at.file - c.loop-at.at) c.loop-at.file)
-          c.loop-at.invariant.within c.in-At.ensures c.read_some.ensures.within c.loop-at.invariant.read c.read_some.ensures.bytes;
+          c.in-Some.next c.read_some.result c.loop-at.file c.read_some.new.room (post_of c.loop-at.at (length c.loop-at.file - c.loop-at.at) c.loop-at.file)
+          c.loop-at.invariant.within (search rules) c.read_some.ensures.within c.loop-at.invariant.read c.read_some.ensures.bytes;
     }
