@@ -17,7 +17,7 @@ use Rattle.engine.specs.Places.{Layout, SpanIn, Fits, band, place, places_for}
 use Rattle.engine.specs.Lent.{Lent, layout_of, most_none, Prepared, Posed}
 use Rattle.engine.specs.Filled.{ValuesHeld, PricesHeld, Small, Filled}
 use Rattle.engine.specs.steps.Bands.{HoldsAlong, BeginsIn, span_place, BandsHold, along, Disjoint}
-use Rattle.engine.specs.steps.OneMore.{OneMore, one_more, more_of, layout_for, one_job, value_with, Copyable, Fillable, BandAdded, BandsAdded}
+use Rattle.engine.specs.steps.OneMore.{OneMore, more_of, layout_for, one_job, value_with, Copyable, Fillable, BandAdded, BandsAdded}
 use Rattle.engine.proofs.Places.{place_below, place_same, band_below, levels_below, places_more}
 use Rattle.engine.proofs.Along.{holds_as, along_join}
 use Rattle.engine.proofs.OneJob.{price_read, value_with_small, value_with_same, value_with_posed}
@@ -66,16 +66,13 @@ pub copied_more : {L : Layout} → Fits L → (k lo s : ℕ) (old between new : 
 copied_more {L} fits k lo s old between new g h r w =
     bands_more fits (k + 1) _ s g h r (holds_as (λ e. bands_keep fits (k + 1) (λ a. along old (band L k a)) k (λ z. omega arith) r s e) w)
 
--- the window of the job may be said by other numbers that are the same
-module _ (J : OneMore) (r d : ℕ) (p : r ≡ J.release) (q : d ≡ J.deadline) (table : List ℕ) where
-  abbrev same : OneMore
-  same = one_more J.shape J.begins J.marks J.job r d
+-- one job more may be said in another way
+module _ {J K : OneMore} (same : J ≡ K) {table : List ℕ} where
+  pub fillable_as : Fillable K table → Fillable J table
+  fillable_as f = rw same f
 
-  pub fillable_read : Fillable J table → Fillable same table
-  fillable_read f = rw (p, q) f
-
-  pub added_read : (hi : ℕ) (new : List ℕ) → BandsAdded same hi table new → BandsAdded J hi table new
-  added_read hi new f = rw (p, q) at f
+  pub added_as : {new : List ℕ} → BandsAdded J J.shape.points table new → BandsAdded K K.shape.points table new
+  added_as f = rw same at f
 
 -- a span of the level below has a place, and what stands there is small
 pub record SpanThere (J : OneMore) (table : List ℕ) (s e : ℕ) : Type 0 where

@@ -13,14 +13,6 @@ use Rattle.engine.specs.Marks.{MarkedBy}
 use Rattle.engine.specs.steps.MarkLowered.{MarkLowered}
 
 module _ (rel : List ℕ) (n : ℕ) (old : List ℕ) where
-  -- no release has lowered a mark
-  pub marked_none : ((t : ℕ) → t < length old → 0 < at old t → n ≤ at old t) → MarkedBy rel n n old old
-  marked_none whole = record {
-    long = refl;
-    counts = λ k t h l u. (omega arith, λ i b c. absurd (omega arith));
-    counted = λ k t h l o f. omega (arith, whole t l o);
-  }
-
   -- the release of job k lowers one
   module _ (k : ℕ) (some : k < n) (before after : List ℕ) (m : MarkedBy rel (k + 1) n old before)
       (w : MarkLowered (at rel k) (k + 1) before after) where

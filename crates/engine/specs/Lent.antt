@@ -3,6 +3,7 @@ use Rattle.std.specs.Prelude.{ℕ, ◌≤◌, ◌<◌, ◌≡◌, true, List, le
 use Rattle.day.specs.Windows.{at}
 use Rattle.rule.specs.Span.{Problem, clear}
 use Rattle.engine.specs.declared.Shape.{Shape}
+use Rattle.engine.specs.declared.Loan.{Loan}
 use Rattle.engine.specs.Places.{Layout, Fits, layout}
 
 -- the shape of the table, where its bands begin, and the jobs by number: releases, deadlines, and for each point how many of the lowest
@@ -16,6 +17,10 @@ pub record Lent : Type 0 where
 
 abbrev pub lent : Shape → List ℕ → List ℕ → List ℕ → List ℕ → Lent
 lent shape begins rel dead marks = record { shape = shape; begins = begins; rel = rel; dead = dead; marks = marks }
+
+-- what the code's loan has
+abbrev pub lent_in : Loan → Lent
+lent_in p = lent p.frame.shape p.frame.begins.now p.rel.now p.dead.now p.marks.now
 
 abbrev pub layout_of : Lent → Layout
 layout_of G = layout G.shape G.begins

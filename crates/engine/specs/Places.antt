@@ -2,6 +2,7 @@
 -- where it ends. Few proofs open the formulas; all else cites the laws in proofs/Places.antt.
 use Rattle.std.specs.Prelude.{ℕ, ◌+◌, ◌*◌, ◌≤◌, ◌<◌, ◌≡◌, List}
 use Rattle.engine.specs.declared.Shape.{Shape}
+use Rattle.engine.specs.declared.Frame.{Frame}
 use Rattle.day.specs.Windows.{at}
 
 -- points are counted from 0; in a level, `begins s` places lie before place 0 of the band of s
@@ -33,6 +34,10 @@ places_for L n = (n + 1) * L.level
 -- as code has it: a list says where the bands begin
 abbrev pub layout : Shape → List ℕ → Layout
 layout shape begins = record { points = shape.points; level = shape.level; begins = at begins }
+
+-- that of the code's frame
+abbrev pub layout_in : Frame → Layout
+layout_in p = layout p.shape p.begins.now
 
 -- the square layout, in which every band has a place for each point: what lies before the band of s
 abbrev pub square_begins : ℕ → ℕ → ℕ

@@ -2,7 +2,8 @@
 #![tactic(auto)]
 
 ghost use Rattle.std.specs.Prelude.{◌≡◌, ◌<◌, length};
-ghost use Rattle.day.specs.Windows.{at};
+ghost use Rattle.engine.specs.Lent.{lent_in};
+ghost use Rattle.engine.specs.steps.OneMore.{more_of, more_in};
 
 pub mod bands;
 pub mod fill;
@@ -17,10 +18,45 @@ pub struct Shape {
     pub none: u16,
 }
 
-// The number at a place of a list, as a place or a count.
-pub fn wide_at(numbers: &[u16], place: usize) -> usize
-    requires { place < length numbers.now }
-    ensures { result ≡ at numbers.now place }
-{
-    day::wide(numbers[place])
+// The frame of a table: its shape, and where the bands of a level begin.
+#[derive(Clone, Copy)]
+pub struct Frame<'a> {
+    pub shape: Shape,
+    pub begins: &'a [usize],
+}
+
+// What is lent beside the table: its frame, and the jobs by number: releases, deadlines, and for each point how many of the lowest jobs
+// may split there.
+#[derive(Clone, Copy)]
+pub struct Loan<'a> {
+    pub frame: Frame<'a>,
+    pub rel: &'a [u16],
+    pub dead: &'a [u16],
+    pub marks: &'a [u16],
+}
+
+// What one job more takes beside the table: its frame, the marks, and the job's number and window.
+#[derive(Clone, Copy)]
+pub struct NextJob<'a> {
+    pub frame: Frame<'a>,
+    pub marks: &'a [u16],
+    pub job: usize,
+    pub release: usize,
+    pub deadline: usize,
+}
+
+impl<'a> Loan<'a> {
+    // The job of this number, with its window.
+    pub fn next_job(self, job: usize) -> NextJob<'a>
+        requires { (job < length self.rel.now) × (job < length self.dead.now) }
+        ensures { more_in result ≡ more_of (lent_in self.entry) job }
+    {
+        NextJob {
+            frame: self.frame,
+            marks: self.marks,
+            job,
+            release: usize::from(self.rel[job]),
+            deadline: usize::from(self.dead[job]),
+        }
+    }
 }

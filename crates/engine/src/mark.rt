@@ -4,8 +4,6 @@ ghost use Rattle.day.specs.Windows.{at};
 ghost use Rattle.engine.specs.Marks.{MarkedBy};
 ghost use Rattle.engine.specs.steps.MarkLowered.{MarkLowered};
 
-use crate::wide_at;
-
 // Lowers the mark of each point where a job is released, so that no higher job splits there. A point that is not allowed has mark 0
 // and keeps it; any other has a mark of at least `count` at first.
 pub fn mark_releases(rel: &[u16], count: usize, marks: &mut [u16])
@@ -14,11 +12,8 @@ pub fn mark_releases(rel: &[u16], count: usize, marks: &mut [u16])
     requires by_index_2 { (t : ℕ) → t < length marks.old → 0 < at marks.old t → count ≤ at marks.old t }
     ensures { MarkedBy rel.now 0 count marks.old marks.new }
 {
-    let mut left = count;
-    while 0 < left {
-        let release = wide_at(rel, left - 1);
-        lower_mark(&mut *marks, release, left);
-        left -= 1;
+    for job in (0..count).rev() {
+        lower_mark(&mut *marks, usize::from(rel[job]), job + 1);
     }
 }
 

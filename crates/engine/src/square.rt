@@ -22,9 +22,7 @@ pub fn begin_bands(points: usize, begins: &mut [usize])
     requires { (points ≤ most_points) × (points ≤ length begins.old) }
     ensures { FirstFilled points (λ s y. y ≡ square_begins points s) begins.old begins.new }
 {
-    let mut point = 0;
-    while point < points {
+    for point in 0..points {
         begins[point] = point * points;
-        point += 1;
     }
 }

@@ -15,12 +15,9 @@ pub fn by_number(rows: &[u16], order: &[usize]) -> [u16; 40]
     requires by_index { (k : ℕ) → k < length order.now → (at order.now k < length rows.now) × (at rows.now (at order.now k) < 65535) }
     ensures { InOrder rows.now order.now (length order.now) result }
 {
-    let mut to = [0u16; 40];
-    let mut next = 0;
-    while next < order.len() {
-        let row = order[next];
-        to[next] = rows[row] + 1;
-        next += 1;
+    let mut to = [0; 40];
+    for (number, row) in order.iter().enumerate() {
+        to[number] = rows[*row] + 1;
     }
     to
 }
@@ -34,33 +31,17 @@ pub fn without_ends(day: Day, count: usize, value: u16) -> u16
         return 0;
     }
     let ends = day.power.wake + day.power.wake;
-    if value < ends {
-        return 0;
-    }
-    value - ends
+    value.saturating_sub(ends)
 }
 
-// The slot of a point; the far point 0 has none, and gives 0.
-fn slot_of(point: u16) -> u16
-    ensures { result ≡ point - 1 }
-{
-    if point == 0 {
-        return 0;
-    }
-    point - 1
-}
-
-// Writes starts by number, which are points, out in row order as slots.
+// Writes starts by number, which are points, out in row order as slots. The far point 0 has no slot, and gives 0.
 pub fn write_out(starts: &mut [u16], order: &[usize], numbered: &[u16])
     requires order_in_bounds { length order.now ≤ length numbered.now }
     requires by_index { (k : ℕ) → k < length order.now → at order.now k < length starts.old }
     requires by_index_2 { (k l : ℕ) → k < l → l < length order.now → at order.now k ≡ at order.now l → ⊥ }
     ensures { Laid order.now (length order.now) (at numbered.now) starts.old starts.new }
 {
-    let mut number = 0;
-    while number < order.len() {
-        let row = order[number];
-        starts[row] = slot_of(numbered[number]);
-        number += 1;
+    for (number, row) in order.iter().enumerate() {
+        starts[*row] = numbered[number].saturating_sub(1);
     }
 }

@@ -1,17 +1,16 @@
 -- Rows that the checks accept, put into number order: they are within the limits, and what is finished with them is planned. Assumes nothing.
-use Prim.Native.Nat.{ℕ, ◌+◌, ◌≤◌, ◌<◌}
+use Prim.Native.Nat.{ℕ, ◌+◌, ◌<◌}
 use mathlib.Core.Path.{◌≡◌, refl, sym}
 use mathlib.Core.List.{List}
 use native.Mathlib.Omega.{arith}
 use lib.ListN.{length}
+use Rattle.std.proofs.Common.{Option}
 use Rattle.checks.specs.declared.Answer.{Answer}
 use Rattle.day.specs.declared.Day.{Day}
 use Rattle.day.specs.Windows.{Windows, at, windows}
 use Rattle.day.specs.Number.{Numbered}
-use Rattle.checks.specs.Check.{most_slots, Accepted}
-use Rattle.day.proofs.Cases.{give}
+use Rattle.checks.specs.Check.{Accepted}
 use Rattle.day.proofs.Bound.{cost_at_most_slots}
-use Rattle.checks.proofs.Check.{good_rows_deadlines}
 use Rattle.day.proofs.Number.{numbered_apart}
 use Rattle.rule.specs.Span.{Problem}
 use Rattle.rule.specs.Whole.{problem, Ready}
@@ -22,7 +21,7 @@ use Rattle.checks.specs.Planned.{Planned}
 use Rattle.checks.specs.steps.Never.{Never}
 use Rattle.numbered.specs.InOrder.{InOrder}
 use Rattle.planner.specs.steps.Jobs.{planner_none, RowsInOrder, WithinLimits, ProblemOf}
-use Rattle.planner.specs.steps.Finished.{Finds, Told}
+use Rattle.planner.specs.steps.Finished.{FindsPlan, Told}
 use Rattle.planner.proofs.Finished.{finished_planned}
 
 -- a list that the checks accept is one for the rule
@@ -41,19 +40,6 @@ module _ {day : Day} {releases deadlines order : List ℕ} (o : RowsInOrder day 
 
   pub row_below_count : (k : ℕ) → k < length order → at order k < length releases
   row_below_count k h = omega (arith, o.numbered.within k h)
-
-  pub releases_fit : (k : ℕ) → k < length order → (at order k < length releases) × (at releases (at order k) ≤ most_slots)
-  releases_fit k h =
-      give (row_below_count k h)
-      (λ l. (l, omega (arith, o.accepted.slots, o.accepted.rows.window (at order k) l, o.accepted.rows.in_day (at order k) l)))
-
-  pub deadlines_fit : (k : ℕ) → k < length order → (at order k < length deadlines) × (at deadlines (at order k) ≤ most_slots)
-  deadlines_fit k h =
-      give (row_below_count k h)
-      (λ l. (
-        omega (arith, good_rows_deadlines releases deadlines o.accepted.rows),
-        omega (arith, o.accepted.slots, o.accepted.rows.in_day (at order k) l),
-      ))
 
   -- no row has two numbers
   pub rows_apart : (k l : ℕ) → k < l → l < length order → at order k ≡ at order l → ⊥
@@ -83,16 +69,12 @@ module _ {day : Day} {releases deadlines order : List ℕ} (o : RowsInOrder day 
       deadline = λ k h. sym (d.inside k h);
     }
 
-    module _ (found : Found) (table table_after : List ℕ)
-        (F : ((P : Problem) → ProblemOf day rel dead (length order) P → Finds P (length order) (day.slots + 2) found) × (table_after ≡ zeroed (need day.slots (length order)) table)) where
-      finds : Finds (problem day rows (at order) planner_none) (length order) (day.slots + 2) found
-      finds = F.0 (problem day rows (at order) planner_none) problem_of
-
-      pub starts_found : length order ≤ length found.starts
-      starts_found = omega (arith, o.all, o.accepted.rows.count, finds.long)
-
-      pub solved : (starts starts_after : List ℕ) (a : Answer) → Told day order found starts a starts_after
-          → Planned Never (need day.slots (length releases)) day rows starts table a starts_after table_after
-      solved starts starts_after a T =
-          finished_planned day rows order starts table (ready_of day rows (at order) o.accepted (rw o.all at o.numbered)) o.all found
-          (rw o.all at finds) a starts_after table_after T (rw o.all at F.1)
+    pub solved : (found : Option Found) (table table_after : List ℕ)
+        → ((P : Problem) → ProblemOf day rel dead (length order) P → FindsPlan P (length order) (day.slots + 2) found)
+        × (table_after ≡ zeroed (need day.slots (length order)) table)
+        → (starts starts_after : List ℕ) (a : Answer) → Told day order found starts a starts_after
+        → Planned Never (need day.slots (length releases)) day rows starts table a starts_after table_after
+    solved found table table_after F starts starts_after a T =
+        finished_planned day rows order starts table (ready_of day rows (at order) o.accepted (rw o.all at o.numbered)) o.all
+        a starts_after table_after (rw o.all at F.1) found
+        (rw o.all at (F.0 (problem day rows (at order) planner_none) problem_of)) T

@@ -5,13 +5,13 @@ use mathlib.Core.List.{List}
 use native.Mathlib.Omega.{arith}
 use lib.ListN.{length}
 use lib.Seq.{ext_get_or}
+use Rattle.std.proofs.Common.{Option, Some, None}
 use Rattle.checks.specs.declared.Answer.{Answer}
 use Rattle.day.specs.declared.Day.{Day}
 use Rattle.day.specs.Windows.{Windows, at}
 use Rattle.checks.specs.Answer.{says, done, no_plan}
 use Rattle.checks.specs.Refusal.{goes_on}
 use Rattle.day.specs.Far.{far_price}
-use Rattle.checks.specs.Check.{most_jobs}
 use Rattle.checks.specs.Zero.{zeroed}
 use Rattle.day.proofs.Cases.{give, on_le}
 use Rattle.day.proofs.Changed.{filled_rest}
@@ -21,15 +21,15 @@ use Rattle.rule.specs.Whole.{problem, whole_back, ByNumber, Ready}
 use Rattle.rule.proofs.Whole.{whole_none, whole_best, whole_cost, back_in_day}
 use Rattle.engine.specs.Places.{SpanIn, place, places_for}
 use Rattle.engine.specs.steps.Bands.{span_place, BandsHold}
-use Rattle.engine.specs.Lent.{Lent, layout_of, Posed}
+use Rattle.engine.specs.Lent.{Lent, layout_of}
 use Rattle.engine.specs.Filled.{Small, Filled}
-use Rattle.readback.specs.StartsRead.{ReadBackAsks, PlanHeld, StartsRead}
+use Rattle.readback.specs.StartsRead.{ReadBackAsks}
 use Rattle.engine.proofs.Places.{place_below, places_more}
 use Rattle.planner.specs.declared.Found.{Found}
 use Rattle.planner.specs.Table.{need}
 use Rattle.planner.specs.steps.Jobs.{planner_none, LentSquare}
 use Rattle.numbered.specs.InOrder.{Laid}
-use Rattle.planner.specs.steps.Finished.{Levels, Tabled, Finds, Told}
+use Rattle.planner.specs.steps.Finished.{Tabled, Finds, FindsPlan, Told}
 use Rattle.checks.specs.Planned.{costs, none_proper, Planned}
 use Rattle.checks.specs.steps.Never.{Never}
 use Rattle.planner.proofs.Table.{need_square}
@@ -104,42 +104,24 @@ module _ {G : Lent} {n : ℕ} {table : List ℕ} (asks : ReadBackAsks G table n)
   pub whole_there : place (layout_of G) n 0 end < length table
   whole_there = omega (arith, asks.room, place_below asks.prepared.fits n n 0 end (omega arith) whole_span)
 
-  pub finds_of : (found : Found) (unread : List ℕ) → found.value ≡ at table (place (layout_of G) n 0 end) → length found.starts ≡ most_jobs
-      → ((P : Problem) → PlanHeld P G table n 0 end → StartsRead P n 0 end unread found.starts)
-      → (P : Problem) → Posed P G n → Levels P G n table → Finds P n end found
-  finds_of found unread q long back P posed levels = record {
-    value_is = q ∙ levels n (omega arith) 0 end whole_span;
-    long = long;
-    each = λ h k l.
-        (back P (record { posed = posed; levels = levels; span = whole_span; some = h })).inside k
-        (l, omega arith, omega (arith, posed.release k l, asks.prepared.window k l, asks.prepared.before_end k l));
-  }
-
-  -- a value of "none" leaves nothing to read back
-  pub finds_none : (found : Found) → found.value ≡ at table (place (layout_of G) n 0 end) → length found.starts ≡ most_jobs
-      → G.shape.none ≤ found.value
-      → (P : Problem) → Posed P G n → Levels P G n table → Finds P n end found
-  finds_none found q long none P posed levels =
-      let same : found.value ≡ value P n 0 end = q ∙ levels n (omega arith) 0 end whole_span in
-      record { value_is = same; long = long; each = λ h k l. absurd (omega (arith, posed.none)) }
-
 -- the table's value decides, and the plan read back is the best
 module _ (day : Day) (w : Windows) (order starts table : List ℕ) (R : Ready day w (at order) planner_none) where
   abbrev P : Problem
   P = problem day w (at order) planner_none
 
-  module _ (all : length order ≡ w.count) (found : Found) (F : Finds P w.count (day.slots + 2) found) (a : Answer) (p t : List ℕ)
-      (T : Told day order found starts a p) (cleared : t ≡ zeroed (need day.slots w.count) table) where
+  module _ (all : length order ≡ w.count) (a : Answer) (p t : List ℕ) (cleared : t ≡ zeroed (need day.slots w.count) table) where
     -- the starts laid out by number are those of the whole day's plan: each is a slot of the day
-    laid_back : value P w.count 0 (day.slots + 2) < planner_none → Laid order w.count (at found.starts) starts p
-        → ByNumber w.count (at order) (at p) (whole_back day w (at order) planner_none)
-    laid_back small l k h = omega (arith, l.inside k h, F.each small k h, back_in_day day w (at order) planner_none R small k h)
+    laid_back : (found : Found) → Finds P w.count (day.slots + 2) found → value P w.count 0 (day.slots + 2) < planner_none
+        → Laid order w.count (at found.starts) starts p → ByNumber w.count (at order) (at p) (whole_back day w (at order) planner_none)
+    laid_back found F small l k h = omega (arith, l.inside k h, F.each small k h, back_in_day day w (at order) planner_none R small k h)
 
-    found_planned : value P w.count 0 (day.slots + 2) < planner_none → Planned Never (need day.slots w.count) day w starts table a p t
-    found_planned small =
-        give (rw (all, F.value_is) at (T.planned (omega (arith, F.value_is))))
+    found_planned : (found : Found) → FindsPlan P w.count (day.slots + 2) (Some found) → Told day order (Some found) starts a p
+        → Planned Never (need day.slots w.count) day w starts table a p t
+    found_planned found F T =
+        let small : value P w.count 0 (day.slots + 2) < planner_none = omega (arith, F.0.value_is, F.1) in
+        give (rw (all, F.0.value_is) at T)
         (λ f.
-        let back = laid_back small f.1 in
+        let back = laid_back found F.0 small f.1 in
         let best = whole_best day w (at order) planner_none R small (at p) back in
         let code : a.code ≡ done = ap (λ (x : Answer). x.code) f.0 in
         record {
@@ -151,18 +133,19 @@ module _ (day : Day) (w : Windows) (order starts table : List ℕ) (R : Ready da
           kept = λ e g. absurd (e code);
         })
 
-    missing_planned : planner_none ≤ value P w.count 0 (day.slots + 2) → Planned Never (need day.slots w.count) day w starts table a p t
-    missing_planned h =
-        give (T.unplanned (omega (arith, F.value_is)))
-        (λ f.
-        let code : a.code ≡ no_plan = ap (λ (x : Answer). x.code) f.0 in
+    missing_planned : planner_none ≤ value P w.count 0 (day.slots + 2) → Told day order None starts a p
+        → Planned Never (need day.slots w.count) day w starts table a p t
+    missing_planned h T =
+        let code : a.code ≡ no_plan = ap (λ (x : Answer). x.code) T.0 in
         record {
-          answer = goes_on never_clear (none_proper (whole_none day w (at order) planner_none R h) f.0);
+          answer = goes_on never_clear (none_proper (whole_none day w (at order) planner_none R h) T.0);
           planned = λ e. absurd (omega arith);
-          unplanned = λ e. f.1;
+          unplanned = λ e. T.1;
           cleared = λ e. cleared;
           kept = λ e g. absurd (g code);
-        })
+        }
 
-    pub finished_planned : Planned Never (need day.slots w.count) day w starts table a p t
-    finished_planned = on_le planner_none (value P w.count 0 (day.slots + 2)) missing_planned found_planned
+    pub finished_planned : (found : Option Found) → FindsPlan P w.count (day.slots + 2) found → Told day order found starts a p
+        → Planned Never (need day.slots w.count) day w starts table a p t
+    finished_planned (Some found) F T = found_planned found F T
+    finished_planned None F T = missing_planned F T

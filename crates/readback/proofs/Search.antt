@@ -1,5 +1,5 @@
 -- The laws of the search for a split from the evening side: the first place with the best sum is the latest. Assumes nothing.
-use Prim.Native.Nat.{ℕ, ◌+◌, ◌-◌, ◌≤◌, ◌<◌, min}
+use Prim.Native.Nat.{ℕ, ◌+◌, ◌-◌, ◌≤◌, ◌<◌}
 use mathlib.Core.Path.{◌≡◌, sym, ◌∙◌}
 use mathlib.Core.List.{List}
 use native.Mathlib.Numerals.{add-one}
@@ -10,7 +10,7 @@ use Rattle.rule.specs.Span.{Problem, value, sides, split}
 use Rattle.rule.specs.SpanPlan.{In}
 use Rattle.rule.proofs.Value.{MaySplit, sides_is, LatestBest, split_found}
 use Rattle.engine.specs.steps.OneMore.{OneMore, layout_for, one_job}
-use Rattle.engine.proofs.OneJob.{splits_marked, splits_unmarked, price_read}
+use Rattle.engine.proofs.OneJob.{splits_marked, price_read}
 use Rattle.readback.specs.declared.Split.{Split}
 use Rattle.readback.specs.steps.SplitFound.{SidesRead, SplitFound}
 
@@ -19,10 +19,6 @@ abbrev pub NoLater : Problem → ℕ → ℕ → ℕ → ℕ → Type 0
 NoLater P s e v t = (u : ℕ) → t < u → u < e → MaySplit P 0 u → sides P 0 s e u ≡ v → ⊥
 
 module _ (P : Problem) (s e v : ℕ) where
-  -- past its deadline the job splits nowhere
-  pub none_later : (t : ℕ) → t + 1 ≡ min (P.deadline 0) e → NoLater P s e v t
-  none_later t q u h l m w = omega (arith, m.high)
-
   -- a place without the sum is passed
   passed : (t : ℕ) → (MaySplit P 0 t → sides P 0 s e t ≡ v → ⊥) → NoLater P s e v t → NoLater P s e v (t - 1)
   passed t n w u h l m q = on_eq u t (λ z. n (rw z at m) (rw z at q)) (λ z. w u (omega arith) l m q)
@@ -45,10 +41,6 @@ module _ (P : Problem) (s e v : ℕ) where
 
 -- one job more over the level below: what is read of a split of the span from s to e
 module _ (J : OneMore) (table : List ℕ) (s e v : ℕ) where
-  -- a place that isn't marked for the job is passed
-  pub unmarked_passed : (t : ℕ) → at J.marks t ≤ J.job → NoLater (one_job J table) s e v t → NoLater (one_job J table) s e v (t - 1)
-  unmarked_passed t h = passed (one_job J table) s e v t (λ m q. splits_unmarked J table t h m)
-
   module _ (r : Split) (read : SidesRead (layout_for J) table J.job s e r) where
     sum_read : sides (one_job J table) 0 s e r.point ≡ r.left + r.right
     sum_read =
@@ -61,7 +53,7 @@ module _ (J : OneMore) (table : List ℕ) (s e v : ℕ) where
           rw add-one at (price_read J table (r.point + 1) e),
         )
 
-    -- so is one with another sum
+    -- a place with another sum is passed
     pub other_passed : (r.left + r.right ≡ v → ⊥) → NoLater (one_job J table) s e v r.point → NoLater (one_job J table) s e v (r.point - 1)
     other_passed n = passed (one_job J table) s e v r.point (λ m q. n (sym sum_read ∙ q))
 

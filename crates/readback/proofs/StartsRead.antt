@@ -8,7 +8,7 @@ use native.Mathlib.Omega.{arith}
 use lib.ListN.{length, set}
 use Rattle.day.specs.Windows.{at}
 use Rattle.day.proofs.Cases.{on_eq, on_le}
-use Rattle.day.proofs.Changed.{changed_nowhere, changed_one, changed_join, changed_as}
+use Rattle.day.proofs.Changed.{changed_one, changed_join, changed_as}
 use Rattle.rule.specs.Span.{Problem, value, split, read_back}
 use Rattle.rule.specs.SpanPlan.{In}
 use Rattle.rule.proofs.Value.{value_out, sides_is, LatestBest, split_found, read_back_out, read_back_last, read_back_left, read_back_right}
@@ -17,7 +17,7 @@ use Rattle.engine.specs.Places.{SpanIn, place}
 use Rattle.engine.specs.Lent.{Lent, layout_of}
 use Rattle.engine.specs.Filled.{ValuesHeld}
 use Rattle.readback.specs.StartsRead.{ReadBackAsks, PlanHeld, Among, StartsRead}
-use Rattle.engine.specs.steps.OneMore.{more_of, one_job, value_with, Fillable}
+use Rattle.engine.specs.steps.OneMore.{more_of, one_job, value_with}
 use Rattle.engine.proofs.Places.{places_more}
 use Rattle.engine.proofs.OneJob.{alike_posed, value_with_posed}
 use Rattle.engine.proofs.Level.{prepared_fewer, posed_fewer}
@@ -30,23 +30,7 @@ asks_fewer {G} {table} {n} r m h = record {
   small = λ i l. r.small i (omega arith);
 }
 
--- the highest job's level below can be read
-pub fillable_asked : {G : Lent} {table : List ℕ} {k : ℕ} → ReadBackAsks G table (k + 1) → Fillable (more_of G k) table
-fillable_asked {k = k} r = record {
-  fits = r.prepared.fits;
-  small_none = r.prepared.small_none;
-  bands = r.prepared.bands;
-  marked = r.prepared.marked;
-  window = r.prepared.window k (omega arith);
-  before_end = r.prepared.before_end k (omega arith);
-  room = r.room;
-  small = r.small k (omega arith);
-}
-
 module _ (P : Problem) where
-  pub back_none : (s e : ℕ) (old : List ℕ) → StartsRead P 0 s e old old
-  back_none s e old = changed_nowhere (λ i w. omega (arith, w.0))
-
   -- a job that isn't released in the span is passed over
   back_out : (k s e : ℕ) (old new : List ℕ) → (In P s e k → ⊥) → StartsRead P k s e old new → StartsRead P (suc k) s e old new
   back_out k s e old new out =
@@ -156,9 +140,3 @@ module _ {P : Problem} {G : Lent} {table : List ℕ} {n s e : ℕ} (holds : Plan
   back_found old between new room l r =
       back_passed P n (suc k) s e old new (omega arith) passed
       (back_split P k s e t inside split_found_there best old between new room (l left) (rw add-one at (r right)))
-
--- no job of the lowest n is released in the span
-pub back_empty : {P : Problem} {G : Lent} {table : List ℕ} {n s e : ℕ} → PlanHeld P G table n s e
-    → ((i : ℕ) → i < n → (s ≤ at G.rel i) × (at G.rel i < e) → ⊥) → (old : List ℕ) → StartsRead P n s e old old
-back_empty {P} {G} {table} {n} {s} {e} holds out old =
-    back_passed P n 0 s e old old (omega arith) (λ i h l w. out i l (rw (holds.posed.release i l) at w)) (back_none P s e old)

@@ -4,14 +4,21 @@
 ghost use Rattle.std.specs.Prelude.{◌≡◌, ◌+◌, ◌<◌, ◌≤◌, length};
 ghost use Rattle.day.specs.Windows.{at};
 ghost use Rattle.rule.specs.Span.{Problem};
-ghost use Rattle.engine.specs.Places.{place, layout};
-ghost use Rattle.engine.specs.Lent.{lent};
+ghost use Rattle.engine.specs.Places.{place, layout_in};
+ghost use Rattle.engine.specs.Lent.{lent_in};
 ghost use Rattle.readback.specs.StartsRead.{ReadBackAsks, PlanHeld, StartsRead};
-ghost use Rattle.engine.specs.steps.OneMore.{one_more, more_of, Fillable};
+ghost use Rattle.engine.specs.steps.OneMore.{more_of, more_in, Fillable};
 ghost use Rattle.readback.specs.steps.SplitFound.{SidesRead, SplitFound};
-ghost use Rattle.readback.specs.steps.Highest.{Tells, UpToInside};
+ghost use Rattle.readback.specs.steps.Highest.{Tells, HighestInside};
 
-use engine::{Shape, bands, wide_at};
+use engine::{Frame, Loan, NextJob};
+
+// The points from which and to which a span goes.
+#[derive(Clone, Copy)]
+pub struct Span {
+    pub from: usize,
+    pub to: usize,
+}
 
 // A split of a span: its place, and the values of the two sides.
 #[derive(Clone, Copy)]
@@ -21,155 +28,99 @@ pub struct Split {
     pub right: u16,
 }
 
-// The split of the span from `from` to `to` at `point`, with what the level below `job` has for the two sides.
-fn split_at(
-    shape: Shape,
-    begins: &[usize],
-    table: &[u16],
-    job: usize,
-    from: usize,
-    point: usize,
-    to: usize,
-) -> Split
-    requires from_in_bounds { (from < length begins.now) × (point + 1 < length begins.now) }
-    requires point_in_bounds { (place (layout shape begins.now) job from point < length table.now) × (place (layout shape begins.now) job (point + 1) to < length table.now) }
-    ensures { (result.point ≡ point) × SidesRead (layout shape begins.now) table.now job from to result }
-{
-    let left = bands::value_at(table, shape, begins, job, from, point);
-    let right = bands::value_at(table, shape, begins, job, point + 1, to);
-    Split { point, left, right }
+// A filled table, and what was lent beside it.
+#[derive(Clone, Copy)]
+pub struct Reader<'a> {
+    pub loan: Loan<'a>,
+    pub table: &'a [u16],
 }
 
-// Where `job`, with this window, splits the span from `from` to `to`, in which it is released and whose value is known: the first place
-// from the evening side with that sum. If no later place has it, the release does.
-fn latest_best(
-    shape: Shape,
-    begins: &[usize],
-    marks: &[u16],
-    table: &[u16],
-    job: usize,
-    release: usize,
-    deadline: usize,
-    from: usize,
-    to: usize,
-    value: u16,
-) -> Split
-    requires fillable { Fillable (one_more shape begins.now marks.now job release deadline) table.now }
-    requires from_le_release { (from ≤ release) × (release < to) × (to < shape.points) }
-    ensures { SplitFound (one_more shape begins.now marks.now job release deadline) table.now from to value result }
+impl Span {
+    // Whether a job released at that point is released in the span.
+    fn has(self, release: usize) -> bool
+        ensures { Tells result self.from self.to release }
+    {
+        self.from <= release && release < self.to
+    }
+}
+
+// The highest of the lowest `count` jobs that is released in the span, where one is.
+fn highest_inside(rel: &[u16], count: usize, span: Span) -> Option<usize>
+    requires { count ≤ length rel.now }
+    ensures { HighestInside (at rel.now) span.from span.to count result }
 {
-    let mut point = day::lesser(deadline, to) - 1;
-    while release < point {
-        if job < wide_at(marks, point) {
-            let split = split_at(shape, begins, table, job, from, point, to);
+    for job in (0..count).rev() {
+        if span.has(usize::from(rel[job])) {
+            return Some(job);
+        }
+    }
+    None
+}
+
+// The split of a span at `point`, with what the level below `job` has for the two sides.
+fn split_at(frame: Frame, table: &[u16], job: usize, span: Span, point: usize) -> Split
+    requires from_in_bounds { (span.from < length frame.begins.now) × (point + 1 < length frame.begins.now) }
+    requires point_in_bounds { (place (layout_in frame) job span.from point < length table.now) × (place (layout_in frame) job (point + 1) span.to < length table.now) }
+    ensures { (result.point ≡ point) × SidesRead (layout_in frame.entry) table.now job span.from span.to result }
+{
+    Split {
+        point,
+        left: frame.value_at(table, job, span.from, point),
+        right: frame.value_at(table, job, point + 1, span.to),
+    }
+}
+
+// Where the job splits a span in which it is released and whose value is known: the first place from the evening side with that sum. If
+// no later place has it, the release does.
+fn latest_best(next: NextJob, table: &[u16], span: Span, value: u16) -> Split
+    requires fillable { Fillable (more_in next) table.now }
+    requires from_le_release { (span.from ≤ next.release) × (next.release < span.to) × (span.to < next.frame.shape.points) }
+    ensures { SplitFound (more_in next.entry) table.now span.from span.to value result }
+{
+    let after = next.deadline.min(span.to);
+    for point in (next.release + 1..after).rev() {
+        if next.job < usize::from(next.marks[point]) {
+            let split = split_at(next.frame, table, next.job, span, point);
             if split.left + split.right == value {
                 return split;
             }
         }
-        point -= 1;
     }
-    split_at(shape, begins, table, job, from, release, to)
+    split_at(next.frame, table, next.job, span, next.release)
 }
 
-// Where `job`, which is released in the span from `from` to `to`, splits it, the span's value being known.
-fn split_of(
-    shape: Shape,
-    begins: &[usize],
-    rel: &[u16],
-    dead: &[u16],
-    marks: &[u16],
-    table: &[u16],
-    job: usize,
-    from: usize,
-    to: usize,
-    value: u16,
-) -> Split
-    requires read_back_asks { ReadBackAsks (lent shape begins.now rel.now dead.now marks.now) table.now (job + 1) }
-    requires from_bound { (from ≤ at rel.now job) × (at rel.now job < to) × (to < shape.points) }
-    ensures { SplitFound (more_of (lent shape begins.now rel.now dead.now marks.now) job) table.now from to value result }
-{
-    let release = wide_at(rel, job);
-    let deadline = wide_at(dead, job);
-    latest_best(
-        shape, begins, marks, table, job, release, deadline, from, to, value,
-    )
-}
-
-// Whether `job` is released in the span from `from` to `to`.
-fn inside(rel: &[u16], job: usize, from: usize, to: usize) -> bool
-    requires { job < length rel.now }
-    ensures { Tells result from to (at rel.now job) }
-{
-    let release = wide_at(rel, job);
-    if from <= release { release < to } else { false }
-}
-
-// How many jobs there are up to the highest of the lowest `count` that is released in the span from `from` to `to`: 0 where none is.
-fn up_to_inside(rel: &[u16], count: usize, from: usize, to: usize) -> usize
-    requires { count ≤ length rel.now }
-    ensures { UpToInside (at rel.now) from to count result }
-{
-    let mut left = count;
-    while 0 < left {
-        if inside(rel, left - 1, from, to) {
-            return left;
-        }
-        left -= 1;
+impl Reader<'_> {
+    // Where `job`, which is released in the span, splits it, the span's value being known.
+    fn split_of(&self, job: usize, span: Span, value: u16) -> Split
+        requires read_back_asks { ReadBackAsks (lent_in self.now.loan) self.now.table.now (job + 1) }
+        requires from_bound { (span.from ≤ at self.now.loan.rel.now job) × (at self.now.loan.rel.now job < span.to) × (span.to < self.now.loan.frame.shape.points) }
+        ensures { SplitFound (more_of (lent_in self.now.loan) job) self.now.table.now span.from span.to value result }
+    {
+        latest_best(self.loan.next_job(job), self.table, span, value)
     }
-    0
-}
 
-// Reads back, by number, the starts of the lowest `count` jobs that are released in the span from `from` to `to`, whose value for them is
-// given: the highest of them splits the span, then each side in turn with the value that was read to find the split.
-pub fn read_back(
-    count: usize,
-    from: usize,
-    to: usize,
-    value: u16,
-    shape: Shape,
-    begins: &[usize],
-    rel: &[u16],
-    dead: &[u16],
-    marks: &[u16],
-    table: &[u16],
-    starts: &mut [u16],
-)
-    requires read_back_asks { ReadBackAsks (lent shape begins.now rel.now dead.now marks.now) table.now count }
-    requires to_lt_points { (to < shape.points) × (count ≤ length starts.old) }
-    requires value_value { value ≡ at table.now (place (layout shape begins.now) count from to) }
-    ensures { (length starts.new ≡ length starts.old) × ((P : Problem) → PlanHeld P (lent shape begins.now rel.now dead.now marks.now) table.now count from to → StartsRead P count from to starts.old starts.new) }
-{
-    let left = up_to_inside(rel, count, from, to);
-    if left == 0 {
-        return;
+    // Reads back, by number, the starts of the lowest `count` jobs that are released in the span, whose value for them is given: the highest
+    // of them splits the span, then each side in turn with the value that was read to find the split.
+    pub fn read_back(&self, count: usize, span: Span, value: u16, starts: &mut [u16])
+        requires read_back_asks { ReadBackAsks (lent_in self.now.loan) self.now.table.now count }
+        requires to_lt_points { (span.to < self.now.loan.frame.shape.points) × (count ≤ length starts.old) }
+        requires value_value { value ≡ at self.now.table.now (place (layout_in self.now.loan.frame) count span.from span.to) }
+        ensures { (length starts.new ≡ length starts.old) × ((P : Problem) → PlanHeld P (lent_in self.now.loan) self.now.table.now count span.from span.to → StartsRead P count span.from span.to starts.old starts.new) }
+    {
+        let Some(job) = highest_inside(self.loan.rel, count, span) else {
+            return;
+        };
+        let split = self.split_of(job, span, value);
+        starts[job] = split.point as u16;
+        let left = Span {
+            from: span.from,
+            to: split.point,
+        };
+        let right = Span {
+            from: split.point + 1,
+            to: span.to,
+        };
+        self.read_back(job, left, split.left, &mut *starts);
+        self.read_back(job, right, split.right, starts);
     }
-    let job = left - 1;
-    let split = split_of(shape, begins, rel, dead, marks, table, job, from, to, value);
-    starts[job] = split.point as u16;
-    read_back(
-        job,
-        from,
-        split.point,
-        split.left,
-        shape,
-        begins,
-        rel,
-        dead,
-        marks,
-        table,
-        &mut *starts,
-    );
-    read_back(
-        job,
-        split.point + 1,
-        to,
-        split.right,
-        shape,
-        begins,
-        rel,
-        dead,
-        marks,
-        table,
-        starts,
-    );
 }

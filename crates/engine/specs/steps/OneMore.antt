@@ -3,6 +3,7 @@ use Rattle.std.specs.Prelude.{ℕ, ◌+◌, ◌≤◌, ◌<◌, List, length, lt
 use Rattle.day.specs.Windows.{at}
 use Rattle.rule.specs.Span.{Problem, value}
 use Rattle.engine.specs.declared.Shape.{Shape}
+use Rattle.engine.specs.declared.NextJob.{NextJob}
 use Rattle.engine.specs.Places.{Layout, Fits, place, places_for, layout}
 use Rattle.engine.specs.Lent.{Lent, most_none}
 use Rattle.engine.specs.Filled.{Small}
@@ -24,6 +25,10 @@ one_more shape begins marks job release deadline =
 -- job k of those that are lent
 abbrev pub more_of : Lent → ℕ → OneMore
 more_of G k = one_more G.shape G.begins G.marks k (at G.rel k) (at G.dead k)
+
+-- the job that the code has
+abbrev pub more_in : NextJob → OneMore
+more_in j = one_more j.frame.shape j.frame.begins.now j.marks.now j.job j.release j.deadline
 
 abbrev pub layout_for : OneMore → Layout
 layout_for J = layout J.shape J.begins

@@ -1,11 +1,6 @@
--- `numbered::by_number` meets its contract: the numbers below `next` are done. Assumes nothing.
-use Prim.Native.Nat.{◌-◌, ◌≤◌}
-use lib.ListN.{length}
+-- `numbered::by_number` meets its contract: the lower numbers are done. Assumes nothing.
 use Rattle.numbered.specs.InOrder.{InOrder}
 use Rattle.numbered.proofs.by_number.Given as goal
 
-abbrev pub invariant-loop-next : goal.invariant-loop-next
-invariant-loop-next l = (l.next ≤ length l.order) × InOrder l.rows l.order l.next l.to
-
-abbrev pub decreases-loop-next : goal.decreases-loop-next
-decreases-loop-next l = length l.order - l.next
+abbrev pub invariant-loop-number : goal.invariant-loop-number
+invariant-loop-number l = InOrder l.rows l.order l.number l.to

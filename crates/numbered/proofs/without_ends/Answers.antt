@@ -7,18 +7,10 @@ use Rattle.numbered.proofs.without_ends.Goals as goal
 pub returns-then-count-eq0 : goal.returns-then-count-eq0
 returns-then-count-eq0 c = rw c.if-count-eq0.true (sym (without_ends_none c.args.day c.args.value))
 
-pub returns-then-value-ends : goal.returns-then-value-ends
-returns-then-value-ends c =
-    omega (
-      arith,
-      without_ends_some c.args.day c.args.count
-          c.args.value (omega arith),
-    )
-
 pub returns : goal.returns
 returns c =
     omega (
       arith,
-      without_ends_some c.args.day c.args.count
-          c.args.value (omega arith),
+      c.saturating_sub.ensures,
+      without_ends_some c.args.day c.args.count c.args.value (omega arith),
     )

@@ -5,19 +5,15 @@ use native.Mathlib.Omega.{arith}
 use Rattle.planner.proofs.Finished.{table_asks, table_cleared}
 use Rattle.planner.proofs.finish.Goals as goal
 
-pub find-found-requires : goal.find-found-requires
-find-found-requires c =
-    let s = c in record { read_back_asks = table_asks s.requires.lent_square s.args.table.now s.requires.count_in_bounds _ c.fill_table.ensures; count_le_most_jobs = (s.requires.lent_square.jobs.few, omega (arith, s.requires.lent_square.points)) }
+pub find-found-requires-clause-read_back_asks : goal.find-found-requires-clause-read_back_asks
+find-found-requires-clause-read_back_asks c =
+    table_asks c.requires.lent_square c.args.table.now c.requires.count_in_bounds _ c.fill_table.ensures
 
 pub returns : goal.returns
 returns c =
-    let s = c in
     let tabled = c.fill_table.ensures in
-    let end : s.args.shape.points - 1 ≡ s.args.day.slots + 2 = omega (arith, s.requires.lent_square.points) in (
+    let end : c.args.loan.frame.shape.points - 1 ≡ c.args.day.slots + 2 = omega (arith, c.requires.lent_square.points) in (
       λ P a. rw end at (c.find-found.ensures P a.posed (tabled.values P a)),
-      table_cleared s.requires.lent_square s.args.table.now s.requires.count_in_bounds _ tabled _ _ c.need_of-needed.ensures
+      table_cleared c.requires.lent_square c.args.table.now c.requires.count_in_bounds _ tabled _ _ c.need_of-needed.ensures
           c.zero_first.ensures,
     )
-
-pub need_of-needed-requires : goal.need_of-needed-requires
-need_of-needed-requires c = omega (arith, c.requires.lent_square.jobs.few)

@@ -1,5 +1,5 @@
 -- What is found of jobs in number order: the table is filled, the plan is read back from it, and by the value of the whole day it is told.
-use Rattle.std.specs.Prelude.{ℕ, ◌≤◌, ◌<◌, ◌≡◌, List, length}
+use Rattle.std.specs.Prelude.{ℕ, ◌≤◌, ◌<◌, ◌≡◌, List, length, Option, Some, None}
 use Rattle.checks.specs.declared.Answer.{Answer}
 use Rattle.day.specs.declared.Day.{Day}
 use Rattle.day.specs.Windows.{at}
@@ -13,7 +13,7 @@ use Rattle.engine.specs.Filled.{ValuesHeld, Small}
 use Rattle.numbered.specs.InOrder.{Laid}
 use Rattle.planner.specs.declared.Found.{Found}
 use Rattle.planner.specs.Table.{need}
-use Rattle.planner.specs.steps.Jobs.{planner_none, PosedAtPrices}
+use Rattle.planner.specs.steps.Jobs.{PosedAtPrices}
 
 -- the table holds the values of a problem for at most n jobs
 abbrev pub Levels : Problem → Lent → ℕ → List ℕ → Type 0
@@ -31,8 +31,13 @@ pub record Finds (P : Problem) (n end : ℕ) (found : Found) : Type 0 where
   pub long : length found.starts ≡ most_jobs
   pub each : value P n 0 end < P.none → (k : ℕ) → k < n → at found.starts k ≡ read_back P n 0 end k
 
--- the answer by the value found, and the starts
-pub record Told (day : Day) (order : List ℕ) (found : Found) (starts : List ℕ) (a : Answer) (starts_after : List ℕ) : Type 0 where
-  pub planned : found.value < planner_none
-      → (a ≡ says done (without_ends day (length order) found.value) 0) × Laid order (length order) (at found.starts) starts starts_after
-  pub unplanned : planner_none ≤ found.value → (a ≡ says no_plan 0 0) × (starts_after ≡ starts)
+-- that, or that there is no plan
+abbrev pub FindsPlan : Problem → ℕ → ℕ → Option Found → Type 0
+FindsPlan P n end (Some found) = Finds P n end found × (found.value < P.none)
+FindsPlan P n end None = P.none ≤ value P n 0 end
+
+-- the answer by what is found, and the starts
+abbrev pub Told : Day → List ℕ → Option Found → List ℕ → Answer → List ℕ → Type 0
+Told day order (Some found) starts a starts_after =
+    (a ≡ says done (without_ends day (length order) found.value) 0) × Laid order (length order) (at found.starts) starts starts_after
+Told day order None starts a starts_after = (a ≡ says no_plan 0 0) × (starts_after ≡ starts)
