@@ -68,24 +68,13 @@ module _ (day : Day) (w : Windows) (own server : List ℕ) where
         says = e;
       })
 
--- an answer of 0 names the winner
-pub chosen_named : {Check : Answer → Type 0} {day : Day} {w : Windows} {own server : List ℕ} → IsCheck Check → (a : Answer)
-    → Chosen Check day w own server a → a.code ≡ done → NamesWinner day w own server a
-chosen_named {w = w} {own} {server} check a p e = then_done (neither_is_check w own server) a (then_done check a p e) e
-
--- of an answer that names the winner, what its first number says
-pub named_own : {day : Day} {w : Windows} {own server : List ℕ} (a : Answer) → NamesWinner day w own server a → a.first ≡ own_plan
-    → Fit w own × (a ≡ says done own_plan 0)
-named_own {day} {w} {own} {server} a n e = by n.winner n.wins n.says
+-- the plan that an answer of 0 names is fit
+pub chosen_fit : {Check : Answer → Type 0} {day : Day} {w : Windows} {own server : List ℕ} → IsCheck Check → (a : Answer)
+    → Chosen Check day w own server a → a.code ≡ done → (a.first ≡ own_plan → Fit w own) × (a.first ≡ server_plan → Fit w server)
+chosen_fit {day = day} {w} {own} {server} check a p e =
+    let named : NamesWinner day w own server a = then_done (neither_is_check w own server) a (then_done check a p e) e in
+    by named.winner named.wins (ap (λ (x : Answer). x.first) named.says)
   where
-    by : (k : ℕ) → Wins day w own server k → a ≡ says done k 0 → Fit w own × (a ≡ says done own_plan 0)
-    by _ (own_wins fit _) q = (fit, q)
-    by _ (server_wins fit _) q = absurd (omega (arith, ap (λ (x : Answer). x.first) q, e))
-
-pub named_server : {day : Day} {w : Windows} {own server : List ℕ} (a : Answer) → NamesWinner day w own server a → (a.first ≡ own_plan → ⊥)
-    → Fit w server × (a ≡ says done server_plan 0)
-named_server {day} {w} {own} {server} a n e = by n.winner n.wins n.says
-  where
-    by : (k : ℕ) → Wins day w own server k → a ≡ says done k 0 → Fit w server × (a ≡ says done server_plan 0)
-    by _ (own_wins fit _) q = absurd (e (ap (λ (x : Answer). x.first) q))
-    by _ (server_wins fit _) q = (fit, q)
+    by : (k : ℕ) → Wins day w own server k → a.first ≡ k → (a.first ≡ own_plan → Fit w own) × (a.first ≡ server_plan → Fit w server)
+    by _ (own_wins fit _) q = ((λ h. fit), (λ h. omega arith))
+    by _ (server_wins fit _) q = ((λ h. omega arith), (λ h. fit))

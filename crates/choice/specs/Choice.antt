@@ -8,6 +8,8 @@ use Rattle.checks.specs.Answer.{says, done, neither_proper}
 use Rattle.checks.specs.Refusal.{◌then◌, Refuses}
 use Rattle.checks.specs.Check.{ListCheck}
 use Rattle.claim.specs.Claim.{Fit, plan_cost}
+use Rattle.choice.specs.declared.Winner.{Winner}
+use Rattle.choice.specs.declared.Winner.TheVariants.{Own, Server}
 
 -- the plans as the companion numbers them
 abbrev pub own_plan : ℕ
@@ -15,6 +17,11 @@ own_plan = 1
 
 abbrev pub server_plan : ℕ
 server_plan = 2
+
+-- the number of a plan in an answer
+abbrev pub plan_number : Winner → ℕ
+plan_number Own = own_plan
+plan_number Server = server_plan
 
 -- which plan wins: the cheaper fit one; equal cost goes to the notebook's own
 pub data Wins (day : Day) (w : Windows) (own server : List ℕ) : ℕ → Type 0 where

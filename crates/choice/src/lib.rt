@@ -1,45 +1,58 @@
-// The choice between two claimed plans for one list: which of them wins.
+// The choice between two claimed plans for one list: which of them wins. Releases and deadlines are two lists of numbers,
+// as 01's number form has them and the public promises speak of them.
 #![tactic(auto)]
 
+ghost use Rattle.std.specs.Prelude.{◌≡◌};
 ghost use Rattle.day.specs.Windows.{windows};
-ghost use Rattle.choice.specs.Choice.{ChoicePromise, PartPromise};
+ghost use Rattle.checks.specs.Answer.{answered, answered_by};
+ghost use Rattle.choice.specs.Choice.{plan_number, ChoicePromise, PartPromise};
 ghost use Rattle.choice.specs.steps.Compared.{Compared};
 
-use checks::{Answer, code};
+use checks::outcome::Refusal;
 use day::Day;
 
-// The two plans of a choice, as an answer numbers them.
-pub const OWN: u16 = 1;
-
-pub const SERVER: u16 = 2;
-
-// Of the answers of pricing two plans, which is of the cheaper proper plan; equal cost goes to the notebook's own.
-fn cheaper(own: Answer, server: Answer) -> Answer
-    ensures { Compared own server result }
-{
-    if own.code != code::DONE {
-        if server.code != code::DONE {
-            return Answer::of(code::NEITHER_PROPER);
-        }
-        return Answer::done(SERVER);
-    }
-    if server.code != code::DONE {
-        return Answer::done(OWN);
-    }
-    if server.first < own.first {
-        return Answer::done(SERVER);
-    }
-    Answer::done(OWN)
+// The two plans of a choice: the notebook's own and the server's.
+#[derive(Clone, Copy, PartialEq, Eq)]
+pub enum Winner {
+    Own,
+    Server,
 }
 
-// Which of two claimed plans for one list wins: as first number 1, the notebook's own, or 2, the server's.
-pub fn which(day: Day, releases: &[u16], deadlines: &[u16], own: &[u16], server: &[u16]) -> Answer
-    ensures { ChoicePromise day (windows releases.now deadlines.now) own.now server.now result }
-{
-    let listed = checks::check_list(day, releases, deadlines);
-    if listed.code != code::DONE {
-        return listed;
+// As an answer numbers the two plans.
+impl From<Winner> for u16 {
+    ghost from_gives = { λ winner number. number ≡ plan_number winner };
+
+    fn from(winner: Winner) -> u16 {
+        match winner {
+            Winner::Own => 1,
+            Winner::Server => 2,
+        }
     }
+}
+
+// Of the outcomes of pricing two plans, which is of the cheaper proper plan; equal cost goes to the notebook's own.
+fn cheaper(own: Result<u16, Refusal>, server: Result<u16, Refusal>) -> Result<Winner, Refusal>
+    ensures { Compared (answered own) (answered server) (answered_by plan_number result) }
+{
+    match (own, server) {
+        (Ok(own), Ok(server)) if server < own => Ok(Winner::Server),
+        (Ok(_), _) => Ok(Winner::Own),
+        (Err(_), Ok(_)) => Ok(Winner::Server),
+        (Err(_), Err(_)) => Err(Refusal::NeitherProper),
+    }
+}
+
+// Which of two claimed plans for one list wins.
+pub fn which(
+    day: Day,
+    releases: &[u16],
+    deadlines: &[u16],
+    own: &[u16],
+    server: &[u16],
+) -> Result<Winner, Refusal>
+    ensures { ChoicePromise day (windows releases.now deadlines.now) own.now server.now (answered_by plan_number result) }
+{
+    checks::check_list(day, releases, deadlines)?;
     let own_price = claim::price(day, releases, deadlines, own);
     let server_price = claim::price(day, releases, deadlines, server);
     cheaper(own_price, server_price)
@@ -56,12 +69,9 @@ pub fn choose<'a>(
     ensures { PartPromise day (windows releases.now deadlines.now) own.entry server.entry result }
 {
     let count = releases.len();
-    let answer = which(day, releases, deadlines, own, server);
-    if answer.code != code::DONE {
-        return &own[..0];
+    match which(day, releases, deadlines, own, server) {
+        Ok(Winner::Own) => &own[..count],
+        Ok(Winner::Server) => &server[..count],
+        Err(_) => &own[..0],
     }
-    if answer.first == OWN {
-        return &own[..count];
-    }
-    &server[..count]
 }

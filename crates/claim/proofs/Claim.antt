@@ -1,27 +1,30 @@
 -- Laws of how a claimed plan is judged. Assumes nothing.
 use Prim.Native.Nat.{ℕ, ◌+◌, ◌≤◌, ◌<◌}
-use mathlib.Core.Path.{◌≡◌, sym, ap}
+use mathlib.Core.Path.{◌≡◌, refl, sym, ap}
 use mathlib.Core.List.{List}
 use mathlib.Core.Logic.{inl, inr, ⊎_elim}
 use native.Mathlib.Omega.{arith}
-use lib.ListN.{length}
+use lib.ListN.{length, take}
+use lib.Seq.{get_or-take, length-take-le}
+use Rattle.std.specs.Prelude.{Ok, Err}
 use Rattle.checks.specs.declared.Answer.{Answer}
+use Rattle.checks.specs.declared.outcome.Refusal.{Refusal}
 use Rattle.day.specs.declared.Day.{Day}
 use Rattle.day.specs.Windows.{Windows, SameRows, at}
 use Rattle.day.specs.Plan.{MayStart}
-use Rattle.checks.specs.Answer.{done, few_starts, outside_window, same_start}
+use Rattle.checks.specs.Answer.{says, done, few_starts, outside_window, same_start}
 use Rattle.checks.specs.Refusal.{◌then◌, goes_on, Passed}
 use Rattle.checks.specs.Check.{most_slots, GoodRows, Accepted, ListCheck}
 use Rattle.day.proofs.Cases.{on_le, on_eq}
 use Rattle.day.proofs.Plan.{same_rows_turned}
 use Rattle.checks.proofs.Refusal.{IsCheck, refuses_is_check, refuses_row_is_check, refuses_pair_is_check, code_of, then_is_check, then_done, then_clear, then_next, then_as, passed_clear, clear_first, clear_next, no_fault, no_row_at_fault, no_pair_at_fault}
+use Rattle.checks.proofs.Refused.{refused_not_done}
 use Rattle.checks.proofs.Check.{list_is_check, clear_accepted}
 use Rattle.checks.proofs.Decided.{Known, Decided, above_known, then_decided, refuses_decided, refuses_row_decided, refuses_pair_decided}
 use Rattle.claim.specs.Claim.{Fit, OutsideWindow, Together, LengthCheck, WindowsCheck, ApartCheck, StartsCheck, ClaimCheck, plan_cost}
 use Rattle.claim.specs.steps.Starts.{PricedStarts}
-use Rattle.claim.specs.declared.Claimed.{Claimed}
-use Rattle.claim.specs.Rows.{Judged}
-use Rattle.claim.proofs.Rows.{Cut, rows_cut}
+use Rattle.claim.specs.Rows.{claimed, RowsBeside, Judged}
+use Rattle.claim.proofs.Rows.{Cut, rows_cut, rows_none}
 
 pub length_is_check : (w : Windows) (starts : List ℕ) → IsCheck (LengthCheck w starts)
 length_is_check w starts = refuses_is_check (λ e. omega arith)
@@ -38,6 +41,36 @@ starts_is_check w starts =
 
 pub claim_is_check : {Check : Answer → Type 0} → IsCheck Check → (w : Windows) (starts : List ℕ) → IsCheck (ClaimCheck Check w starts)
 claim_is_check check w starts = then_is_check check (starts_is_check w starts)
+
+-- of the first n starts, as a list of their own
+pub apart_of_first : (n : ℕ) (starts : List ℕ) (a : Answer) → n ≤ length starts
+    → (ApartCheck (length (take n starts)) (take n starts) then Passed) a → (ApartCheck n starts then Passed) a
+apart_of_first n starts a h p = then_as (apart (take n starts) starts there back) (apart starts (take n starts) back there) (λ b e. e) a (rw (length-take-le n starts h) at p)
+  where
+    Same : List ℕ → List ℕ → Type 0
+    Same xs ys = (i j : ℕ) → i < j → j < n → Together xs i j → Together ys i j
+
+    there : Same (take n starts) starts
+    there i j o w q = rw (get_or-take n starts i 0 (omega arith), get_or-take n starts j 0 w) at q
+
+    back : Same starts (take n starts)
+    back i j o w q = rw (get_or-take n starts i 0 (omega arith), get_or-take n starts j 0 w) q
+
+    apart : (xs ys : List ℕ) → Same xs ys → Same ys xs → (b : Answer) → ApartCheck n xs b → ApartCheck n ys b
+    apart xs ys to from b p =
+        record {
+          row = p.row;
+          partner = p.partner;
+          first =
+              record {
+                order = p.first.order;
+                within = p.first.within;
+                fault = to p.row p.partner p.first.order p.first.within p.first.fault;
+                lowest = λ k l below order within q. p.first.lowest k l below order within (from k l order within q);
+                partner = λ l order below q. p.first.partner l order below (from p.row l order (omega (arith, p.first.within)) q);
+              };
+          says = p.says;
+        }
 
 may_start_known : (w : Windows) (i t : ℕ) → Known (MayStart w i t)
 may_start_known w i t =
@@ -101,9 +134,17 @@ pub fit_below : {limit slots : ℕ} {w : Windows} {starts : List ℕ} → GoodRo
     → at starts i < slots
 fit_below good fit i h = omega (arith, good.in_day i h, fit.proper.inside i h)
 
--- rows that fit a day fit a longer one
-pub good_rows_within : {limit slots most : ℕ} {w : Windows} → slots ≤ most → GoodRows limit slots w → GoodRows limit most w
-good_rows_within h good = record { count = good.count; window = good.window; in_day = λ i l. omega (arith, good.in_day i l) }
+-- so are the first ones, as a list of their own
+pub fit_first_below : {limit slots : ℕ} {w : Windows} {starts : List ℕ} → GoodRows limit slots w → Fit w starts → (i : ℕ)
+    → i < length (take w.count starts) → at (take w.count starts) i < slots
+fit_first_below {w = w} {starts} good fit i h =
+    let within : i < w.count = omega (arith, length-take-le w.count starts fit.long) in
+    omega (arith, get_or-take w.count starts i 0 within, fit_below good fit i within)
+
+-- a refusal leaves no rows
+pub refused_rows : (w : Windows) (starts : List ℕ) (refusal : Refusal) → RowsBeside w starts (claimed (Err refusal))
+refused_rows w starts refusal =
+    record { accepted = λ e. absurd (refused_not_done refusal e); refused = λ e. rows_none (at starts) }
 
 -- a list that was checked and not refused is accepted
 pub passed_accepted : {day : Day} {w : Windows} (a : Answer) → (ListCheck day w then Passed) a → a.code ≡ done → Accepted day w
@@ -154,23 +195,19 @@ pub priced_cong : (day : Day) (w v : Windows) (starts : List ℕ) → SameRows w
 priced_cong day w v starts same =
     then_as (starts_check_cong w v starts same) (starts_check_cong v w starts (same_rows_turned w v same)) (λ b e. rw same.count e)
 
-module _ {Check : Answer → Type 0} {w : Windows} {starts : List ℕ} {claimed : Claimed} (check : IsCheck Check)
-    (p : Judged Check w starts claimed) (e : claimed.answer.code ≡ done) where
+module _ {Check : Answer → Type 0} {w : Windows} {starts rows : List ℕ} (check : IsCheck Check)
+    (p : Judged Check w starts (claimed (Ok rows))) where
   judged_clear : (b : Answer) → ClaimCheck Check w starts b → ⊥
-  judged_clear = passed_clear (claim_is_check check w starts) claimed.answer p.answer e
+  judged_clear = passed_clear (claim_is_check check w starts) (says done 0 0) p.answer refl
 
   -- after a plan that was judged and not refused, what comes next answers
   pub judged_next : {Next : Answer → Type 0} (a : Answer) → Next a → (ClaimCheck Check w starts then Next) a
   judged_next a = goes_on judged_clear
 
-  pub judged_says : Passed claimed.answer
-  judged_says = then_next judged_clear claimed.answer p.answer
-
 -- by codes 1 to 4 the day's slots are a part of the rows
-module _ {day : Day} {w : Windows} {starts : List ℕ} {claimed : Claimed} (p : Judged (ListCheck day w) w starts claimed)
-    (e : claimed.answer.code ≡ done) where
+module _ {day : Day} {w : Windows} {starts rows : List ℕ} (p : Judged (ListCheck day w) w starts (claimed (Ok rows))) where
   pub judged_slots : day.slots ≤ most_slots
-  judged_slots = (clear_accepted (clear_first (judged_clear list_is_check p e))).slots
+  judged_slots = (clear_accepted (clear_first (judged_clear list_is_check p))).slots
 
-  pub judged_cut : (slots : ℕ) → slots ≡ day.slots → Cut claimed.rows slots
-  judged_cut slots here = rows_cut (p.rows.accepted e) slots (omega (arith, judged_slots))
+  pub judged_cut : (slots : ℕ) → slots ≡ day.slots → Cut rows slots
+  judged_cut slots here = rows_cut (p.rows.accepted refl) slots (omega (arith, judged_slots))

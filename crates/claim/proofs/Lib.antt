@@ -1,6 +1,5 @@
 -- The laws of the definitions in specs/.
 pub mod Claim
-pub mod Pair
 pub mod Rows
 pub mod Paying
 pub mod Unique

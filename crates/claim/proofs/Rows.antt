@@ -1,12 +1,13 @@
 -- Laws of the row in a slot. Assumes nothing.
-use Prim.Native.Nat.{ℕ, zero, suc, ◌+◌, ◌≤◌, ◌<◌}
+use Prim.Native.Nat.{ℕ, zero, suc, ◌+◌, ◌-◌, ◌≤◌, ◌<◌}
 use mathlib.Core.Path.{◌≡◌, refl, sym, ◌∙◌}
 use mathlib.Core.Bool.{true, false}
 use mathlib.Core.List.{List}
 use native.Mathlib.Omega.{arith}
 use native.Mathlib.Numerals.{add-one}
 use lib.Dec.{eqb-suc-zero}
-use lib.ListN.{length, take, set, length-set, replicate, length-replicate, get_or-replicate}
+use lib.ListN.{length, take, drop, set, length-set, replicate, length-replicate, get_or-replicate}
+use Rattle.std.proofs.lemmas.List.{take_rest, length-drop, get_or-drop}
 use lib.Seq.{get_or-set_same, get_or-set_other, get_or-take, length-take-le}
 use borrow.Author.Tests.{eq-eqb, ne_eqb}
 use Rattle.day.specs.Windows.{at}
@@ -38,6 +39,22 @@ rows_next n start rows slot here h r =
           on_eq (start n) t
           (λ e. rw (row_at_here n start t e, ← e) (get_or-set_same rows (start n) (suc n) 0 (omega (arith, r.long))))
           (λ e. get_or-set_other rows (start n) t (suc n) 0 (λ q. e (sym q)) ∙ r.each t l ∙ sym (row_at_other n start t e));
+    }
+
+-- only the first n starts matter
+row_at_same : (n : ℕ) (start other : Plan) (t : ℕ) → ((i : ℕ) → i < n → start i ≡ other i) → row_at n start t ≡ row_at n other t
+unfolding row_at
+row_at_same zero start other t same = refl
+row_at_same (suc n) start other t same = rw (same n (omega arith), row_at_same n start other t (λ i h. same i (omega arith)))
+
+-- the rows of the first n starts, as a list of their own
+pub rows_of_first : {rows : List ℕ} (n : ℕ) (starts : List ℕ) → n ≤ length starts
+    → RowsBySlot (length (take n starts)) (at (take n starts)) rows → RowsBySlot n (at starts) rows
+rows_of_first n starts h r =
+    let all : length (take n starts) ≡ n = length-take-le n starts h in
+    record {
+      long = r.long;
+      each = λ t l. rw all at (r.each t l) ∙ row_at_same n (at (take n starts)) (at starts) t (λ i k. get_or-take n starts i 0 k);
     }
 
 -- at the start no row stands anywhere
@@ -97,3 +114,13 @@ rows_cut {n} {start} {rows} r slots within =
 -- the search for the next job stays within the list
 pub next_within : {rows : List ℕ} {from slot : ℕ} → NextJob rows from slot → from ≤ length rows → slot ≤ length rows
 next_within {rows} {from} {slot} next h = on_le slot from (λ l. omega arith) (λ l. next.within l)
+
+-- the slots of a list from one of them on, as a list of their own
+abbrev pub slots_from : ℕ → List ℕ → List ℕ
+slots_from first rows = take (length rows - first) (drop first rows)
+
+pub slots_from_length : (rows : List ℕ) (first : ℕ) → length (slots_from first rows) ≡ length rows - first
+slots_from_length rows first = rw take_rest (length-drop first rows)
+
+pub slots_from_at : (rows : List ℕ) (first i : ℕ) → at (slots_from first rows) i ≡ at rows (first + i)
+slots_from_at rows first i = rw take_rest (get_or-drop first rows i 0)

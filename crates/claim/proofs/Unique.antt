@@ -1,10 +1,11 @@
 -- Two outcomes that keep a promise of this crate are equal. Assumes nothing.
 use Prim.Native.Nat.{ℕ, ◌≤◌}
-use mathlib.Core.Path.{◌≡◌, sym, ◌∙◌}
+use mathlib.Core.Path.{◌≡◌, refl, sym, ◌∙◌, ap}
 use mathlib.Core.List.{List}
 use native.Mathlib.Omega.{arith}
 use lib.ListN.{length}
 use lib.Seq.{ext_get_or}
+use Rattle.std.specs.Prelude.{Option, Some, None, max}
 use Rattle.checks.specs.declared.Answer.{Answer}
 use Rattle.day.specs.declared.Day.{Day}
 use Rattle.day.specs.Windows.{Windows}
@@ -12,9 +13,8 @@ use Rattle.day.specs.Plan.{Plan}
 use Rattle.checks.specs.Answer.{done}
 use Rattle.day.proofs.Cases.{on_eq, on_le}
 use Rattle.checks.proofs.Refusal.{IsCheck, then_unique, passed_unique}
-use Rattle.claim.specs.declared.Claimed.{Claimed}
 use Rattle.claim.specs.Claim.{Priced}
-use Rattle.claim.specs.Rows.{RowsBySlot, NextJob, Judged}
+use Rattle.claim.specs.Rows.{RowsBySlot, NextJob, FoundJob, Claimed, Judged}
 use Rattle.claim.proofs.Claim.{claim_is_check}
 
 pub priced_unique : {Check : Answer → Type 0} → IsCheck Check → (day : Day) (w : Windows) (starts : List ℕ) (a b : Answer)
@@ -47,3 +47,9 @@ next_at_most {rows} {from} {a} {b} p q =
 
 pub next_unique : (rows : List ℕ) (from a b : ℕ) → NextJob rows from a → NextJob rows from b → a ≡ b
 next_unique rows from a b p q = omega (arith, next_at_most p q, next_at_most q p)
+
+pub found_unique : (rows : List ℕ) (from : ℕ) (a b : Option ℕ) → FoundJob rows from a → FoundJob rows from b → a ≡ b
+found_unique rows from (Some s) (Some t) p q = ap Some (next_unique rows from s t p.1 q.1)
+found_unique rows from (Some s) None p q = absurd (omega (arith, p.0, next_unique rows from s (max from (length rows)) p.1 q))
+found_unique rows from None (Some t) p q = absurd (omega (arith, q.0, next_unique rows from t (max from (length rows)) q.1 p))
+found_unique rows from None None p q = refl

@@ -1,12 +1,12 @@
 -- Which row stands in a slot.
-use Rattle.std.specs.Prelude.{ℕ, zero, suc, ◌≤◌, ◌<◌, ◌≡◌, Bool, true, cond, not, List, eqb, length}
+use Rattle.std.specs.Prelude.{ℕ, zero, suc, ◌≤◌, ◌<◌, ◌≡◌, Bool, true, cond, not, List, eqb, length, replicate, max, Option, Some, None, Result, Ok, Err}
 use Rattle.checks.specs.declared.Answer.{Answer}
+use Rattle.checks.specs.declared.outcome.Refusal.{Refusal}
 use Rattle.day.specs.Windows.{Windows, at}
 use Rattle.day.specs.Plan.{Plan}
-use Rattle.checks.specs.Answer.{done}
+use Rattle.checks.specs.Answer.{says, done, refused}
 use Rattle.checks.specs.Refusal.{◌then◌, Passed}
 use Rattle.checks.specs.Check.{most_slots}
-use Rattle.claim.specs.declared.Claimed.{Claimed}
 use Rattle.claim.specs.Claim.{ClaimCheck}
 
 -- the row, counted from 1, of the first n that starts at slot t; 0 where none does, the last where several do
@@ -32,6 +32,21 @@ pub record NextJob (rows : List ℕ) (from slot : ℕ) : Type 0 where
   pub within : from < slot → slot ≤ length rows
   pub job : slot < length rows → HoldsJob rows slot
   pub empty_before : (u : ℕ) → u < slot → from ≤ u → HoldsJob rows u → ⊥
+
+-- what the search for it finds: a slot of the list, or nothing
+abbrev pub FoundJob : List ℕ → ℕ → Option ℕ → Type 0
+FoundJob rows from (Some slot) = (slot < length rows) × NextJob rows from slot
+FoundJob rows from None = NextJob rows from (max from (length rows))
+
+-- a claimed plan, judged: the answer, and the row in each slot
+pub record Claimed : Type 0 where
+  pub answer : Answer
+  pub rows : List ℕ
+
+-- what a judged plan is so: under a refusal no row stands in any slot
+abbrev pub claimed : Result (List ℕ) Refusal → Claimed
+claimed (Ok rows) = record { answer = says done 0 0; rows = rows }
+claimed (Err refusal) = record { answer = refused refusal; rows = replicate most_slots 0 }
 
 -- the rows beside the answer to a claimed plan: of an accepted plan the row in each slot, under a refusal none
 pub record RowsBeside (w : Windows) (starts : List ℕ) (claimed : Claimed) : Type 0 where

@@ -1,3 +1,2 @@
 -- What functions of claimed plans promise each other.
 pub mod Starts
-pub mod Pair

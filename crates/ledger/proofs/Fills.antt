@@ -16,6 +16,7 @@ use Rattle.ledger.specs.declared.Fill.TheVariants.{Job, Before, Awake, Asleep, A
 use Rattle.ledger.specs.Sleep.{SleepTest}
 use Rattle.ledger.specs.Fills.{Empty, Busy, InGap, Fills, by_job, before_first, after_last, in_awake, in_asleep}
 use Rattle.ledger.specs.Promise.{plan_row}
+use Rattle.ledger.specs.steps.Run.{LastJob}
 use Rattle.ledger.proofs.InGap.{GapAround, around, in_gap}
 
 pub not_busy : (row : ℕ → ℕ) (t : ℕ) → (Busy row t → ⊥) → Empty row t
@@ -94,30 +95,24 @@ module _ {slots : ℕ} {row : ℕ → ℕ} {t : ℕ} where
   gap_by_fill g (in_awake h p e) = on_eq h g (λ z. inl (rw z at p)) (λ z. inr (λ q. z (gap_unique p q)))
   gap_by_fill g (in_asleep h p e) = on_eq h g (λ z. inl (rw z at p)) (λ z. inr (λ q. z (gap_unique p q)))
 
--- the last job before t
-record LastJob (row : ℕ → ℕ) (t : ℕ) : Type 0 where
-  pub at : ℕ
-  pub earlier : at < t
-  pub job : Busy row at
-  pub empty : (u : ℕ) → at < u → u < t → Empty row u
-
-last_or_none : (row : ℕ → ℕ) (t : ℕ) → LastJob row t ⊎ ((u : ℕ) → u < t → Empty row u)
+last_or_none : (row : ℕ → ℕ) (t : ℕ) → ((last : ℕ) × LastJob row t last) ⊎ ((u : ℕ) → u < t → Empty row u)
 last_or_none row zero = inr (λ u h. absurd (omega arith))
 last_or_none row (suc t) =
     on_eq (row t) 0
     (λ e.
     ⊎_elim
     (λ p.
-    inl
-    (record {
-      at = p.at;
-      earlier = omega (arith, p.earlier);
-      job = p.job;
-      empty = λ u h l. on_eq u t (λ z. rw z e) (λ z. p.empty u h (omega arith));
-    }))
+    inl (
+      p.0,
+      record {
+        earlier = omega (arith, p.1.earlier);
+        job = p.1.job;
+        empty = λ u h l. on_eq u t (λ z. rw z e) (λ z. p.1.empty u h (omega arith));
+      },
+    ))
     (λ n. inr (λ u l. on_eq u t (λ z. rw z e) (λ z. n u (omega arith))))
     (last_or_none row t))
-    (λ b. inl (record { at = t; earlier = omega arith; job = b; empty = λ u h l. absurd (omega arith) }))
+    (λ b. inl (t, record { earlier = omega arith; job = b; empty = λ u h l. absurd (omega arith) }))
 
 -- a slot comes after t and holds a job
 abbrev LaterJob : (ℕ → ℕ) → ℕ → ℕ → Type 0
@@ -129,22 +124,22 @@ later_job_known row t u =
     (λ h. on_eq (row u) 0 (λ e. inr (λ p. p.1 e)) (λ b. inl (h, b)))
 
 module _ (test : SleepTest) (slots : ℕ) (row : ℕ → ℕ) (t : ℕ) (within : t < slots) where
-  between : Empty row t → LastJob row t → (n : ℕ) → First slots (LaterJob row t) n → (f : Fill) × Fills test slots row t f
-  between e p n q =
-      on (test (n - suc p.at)) (λ z. (Asleep, in_asleep (n - suc p.at) gap z))
-      (λ z. (Awake, in_awake (n - suc p.at) gap z))
+  between : Empty row t → (s : ℕ) → LastJob row t s → (n : ℕ) → First slots (LaterJob row t) n → (f : Fill) × Fills test slots row t f
+  between e s p n q =
+      on (test (n - suc s)) (λ z. (Asleep, in_asleep (n - suc s) gap z))
+      (λ z. (Awake, in_awake (n - suc s) gap z))
     where
-      next : p.at + (n - suc p.at) + 1 ≡ n
+      next : s + (n - suc s) + 1 ≡ n
       next = omega (arith, p.earlier, q.fault.0)
 
       clear : (u : ℕ) → t < u → u < n → Empty row u
       clear u h l = not_busy row u (λ b. q.lowest u l (h, b))
 
-      gap : InGap slots row t (n - suc p.at)
+      gap : InGap slots row t (n - suc s)
       gap =
           in_gap
           (record {
-            last = p.at;
+            last = s;
             job_before = p.job;
             after_last = p.earlier;
             empty = λ u h l.
@@ -161,14 +156,14 @@ module _ (test : SleepTest) (slots : ℕ) (row : ℕ → ℕ) (t : ℕ) (within 
       (λ e.
       ⊎_elim
       (λ p.
-      ⊎_elim (λ q. between e p q.0 q.1)
+      ⊎_elim (λ q. between e p.0 p.1 q.0 q.1)
       (λ n. (
         After,
-        after_last p.at p.earlier p.job
+        after_last p.0 p.1.earlier p.1.job
             (λ u h l.
             on_le t u
             (λ k. on_eq u t (λ z. rw z e) (λ z. not_busy row u (λ b. n u l (omega arith, b))))
-            (λ k. p.empty u h k)),
+            (λ k. p.1.empty u h k)),
       ))
       (first_or_none (later_job_known row t) slots))
       (λ n. (Before, before_first (λ u h. on_eq u t (λ z. rw z e) (λ z. n u (omega arith)))))

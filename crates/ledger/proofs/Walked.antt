@@ -73,17 +73,6 @@ module _ {test : SleepTest} {slots : ℕ} {row : ℕ → ℕ} where
       before_here : first ≤ slot → first < slot
       before_here h = on_eq first slot (λ z. absurd (p.begun.fault (omega arith) (rw z here))) (λ z. omega arith)
 
-  -- the counts of one job more stay below the slots of the day
-  pub walked_room : {first job awake asleep empty slot dark : ℕ} → Walked test slots row first job awake asleep empty slot
-      → dark ≡ cond (test empty) empty 0
-      → (dark ≤ empty) × ((asleep + dark ≤ slots) × ((awake + (empty - dark) ≤ slots) × (job ≤ slots)))
-  walked_room {empty = empty} p e =
-      give (slept_at_most test empty e)
-      (λ l. (
-        l,
-        (omega (arith, p.sum, p.within), (omega (arith, p.sum, p.within), omega (arith, p.sum, p.within))),
-      ))
-
   -- a job ends the gap of the slots that wait
   gap_around : {first job awake asleep empty slot : ℕ} → Walked test slots row first job awake asleep empty slot
       → slot < slots → Busy row slot

@@ -1,10 +1,11 @@
 -- What the ledger and one slot's record promise.
-use Rattle.std.specs.Prelude.{ℕ, ◌≤◌, ◌≡◌, List}
+use Rattle.std.specs.Prelude.{ℕ, ◌≤◌, ◌≡◌, List, Result, Ok, Err}
 use Rattle.checks.specs.declared.Answer.{Answer}
+use Rattle.checks.specs.declared.outcome.Refusal.{Refusal}
 use Rattle.day.specs.declared.Day.{Day}
 use Rattle.day.specs.Windows.{Windows, at}
 use Rattle.day.specs.Gap.{asleep}
-use Rattle.checks.specs.Answer.{done, no_such_slot}
+use Rattle.checks.specs.Answer.{says, done, no_such_slot, refused}
 use Rattle.checks.specs.Refusal.{◌then◌, Passed, Refuses}
 use Rattle.checks.specs.Check.{ListCheck}
 use Rattle.claim.specs.Claim.{ClaimCheck}
@@ -25,6 +26,11 @@ plan_row w starts = row_at w.count (at starts)
 abbrev pub no_counts : Counts
 no_counts = record { before = 0; job = 0; awake = 0; asleep = 0; after = 0 }
 
+-- what an outcome of the ledger is as its answer
+abbrev pub ledger_answer : Result Counts Refusal → LedgerAnswer
+ledger_answer (Ok counts) = record { answer = says done 0 0; counts = counts }
+ledger_answer (Err refusal) = record { answer = refused refusal; counts = no_counts }
+
 -- the ledger by a sleep test, for any check of the list: refused as pricing, or the five counts of the plan
 pub record LedgeredBy (test : SleepTest) (Check : Answer → Type 0) (day : Day) (w : Windows) (starts : List ℕ) (answered : LedgerAnswer) : Type 0 where
   pub answer : (ClaimCheck Check w starts then Passed) answered.answer
@@ -42,6 +48,11 @@ LedgerPromise day w = Ledgered (ListCheck day w) day w
 -- what a refused slot record holds
 abbrev pub no_slot : SlotFill
 no_slot = record { slot = 0; fill = Before }
+
+-- what an outcome of `slot` is as its answer
+abbrev pub slot_answer : Result SlotFill Refusal → SlotAnswer
+slot_answer (Ok held) = record { answer = says done 0 0; held = held }
+slot_answer (Err refusal) = record { answer = refused refusal; held = no_slot }
 
 -- the slot asked for is T or more
 abbrev pub AskedCheck : Day → ℕ → Answer → Type 0

@@ -1,17 +1,19 @@
-// The slot ledger: what fills each slot of a day, by a claimed plan.
+// The slot ledger: what fills each slot of a day, by a claimed plan. Releases and deadlines are two lists of numbers,
+// as 01's number form has them and the public promises speak of them.
 #![tactic(auto)]
 
 mod walk;
 
-ghost use Rattle.day.specs.Windows.{windows};
 ghost use Rattle.std.specs.Prelude.{◌≡◌};
-ghost use Rattle.ledger.specs.Promise.{no_slot, LedgerPromise, SlotPromise};
+ghost use Rattle.day.specs.Windows.{windows};
+ghost use Rattle.ledger.specs.Promise.{ledger_answer, slot_answer, LedgerPromise, SlotPromise};
 
-use checks::{Answer, code};
+use checks::Answer;
+use checks::outcome::Refusal;
 use day::Day;
 
 // What fills a slot: the job of a row, counted from 1; the machine before the first job, awake or asleep in a gap, or after the last job.
-#[derive(Clone, Copy)]
+#[derive(Clone, Copy, PartialEq, Eq)]
 pub enum Fill {
     Job(u16),
     Before,
@@ -21,14 +23,14 @@ pub enum Fill {
 }
 
 // A slot and what fills it.
-#[derive(Clone, Copy)]
+#[derive(Clone, Copy, PartialEq, Eq)]
 pub struct SlotFill {
     pub slot: u16,
     pub fill: Fill,
 }
 
 // The answer to the question what fills a slot.
-#[derive(Clone, Copy)]
+#[derive(Clone, Copy, PartialEq, Eq)]
 pub struct SlotAnswer {
     pub answer: Answer,
     pub held: SlotFill,
@@ -36,7 +38,7 @@ pub struct SlotAnswer {
 
 // How many slots of the day are filled by each.
 #[repr(C)]
-#[derive(Clone, Copy)]
+#[derive(Clone, Copy, Default, PartialEq, Eq)]
 pub struct Counts {
     pub before: u16,
     pub job: u16,
@@ -47,58 +49,80 @@ pub struct Counts {
 
 // The answer of the ledger.
 #[repr(C)]
-#[derive(Clone, Copy)]
+#[derive(Clone, Copy, PartialEq, Eq)]
 pub struct LedgerAnswer {
     pub answer: Answer,
     pub counts: Counts,
 }
 
-// Counts the slots of a claimed plan by what fills them.
-pub fn ledger(day: Day, releases: &[u16], deadlines: &[u16], starts: &[u16]) -> LedgerAnswer
-    ensures { LedgerPromise day (windows releases.now deadlines.now) starts.now result }
-{
-    let claimed = claim::judge(day, releases, deadlines, starts);
-    let answer = claimed.answer;
-    if answer.code != code::DONE {
-        let counts = Counts {
-            before: 0,
-            job: 0,
-            awake: 0,
-            asleep: 0,
-            after: 0,
-        };
-        return LedgerAnswer { answer, counts };
+// Under a refusal every count is 0.
+impl From<Result<Counts, Refusal>> for LedgerAnswer {
+    ghost from_gives = { λ outcome answer. answer ≡ ledger_answer outcome };
+
+    fn from(outcome: Result<Counts, Refusal>) -> LedgerAnswer {
+        match outcome {
+            Ok(counts) => LedgerAnswer {
+                answer: Answer::done(0),
+                counts,
+            },
+            Err(refusal) => LedgerAnswer {
+                answer: Answer::from(refusal),
+                counts: Counts::default(),
+            },
+        }
     }
-    let rows = claimed.rows;
-    let slots = day::wide(day.slots);
-    let counts = walk::count(day.power, &rows[..slots]);
-    LedgerAnswer { answer, counts }
 }
 
-// A refused slot record: slot 0, filled by Before.
-fn no_slot(answer: Answer) -> SlotAnswer
-    ensures { result ≡ record { answer = answer; held = no_slot } }
+// A refused slot record has slot 0, filled by Before.
+impl From<Result<SlotFill, Refusal>> for SlotAnswer {
+    ghost from_gives = { λ outcome answer. answer ≡ slot_answer outcome };
+
+    fn from(outcome: Result<SlotFill, Refusal>) -> SlotAnswer {
+        match outcome {
+            Ok(held) => SlotAnswer {
+                answer: Answer::done(0),
+                held,
+            },
+            Err(refusal) => SlotAnswer {
+                answer: Answer::from(refusal),
+                held: SlotFill {
+                    slot: 0,
+                    fill: Fill::Before,
+                },
+            },
+        }
+    }
+}
+
+// Counts the slots of a claimed plan by what fills them.
+pub fn ledger(
+    day: Day,
+    releases: &[u16],
+    deadlines: &[u16],
+    starts: &[u16],
+) -> Result<Counts, Refusal>
+    ensures { LedgerPromise day (windows releases.now deadlines.now) starts.now (ledger_answer result) }
 {
-    let fill = Fill::Before;
-    let held = SlotFill { slot: 0, fill };
-    SlotAnswer { answer, held }
+    let rows = claim::judge(day, releases, deadlines, starts)?;
+    let slots = usize::from(day.slots);
+    Ok(walk::count(day.power, &rows[..slots]))
 }
 
 // What fills one slot of a claimed plan.
-pub fn slot(day: Day, releases: &[u16], deadlines: &[u16], starts: &[u16], slot: u16) -> SlotAnswer
-    ensures { SlotPromise day (windows releases.now deadlines.now) starts.now slot result }
+pub fn slot(
+    day: Day,
+    releases: &[u16],
+    deadlines: &[u16],
+    starts: &[u16],
+    slot: u16,
+) -> Result<SlotFill, Refusal>
+    ensures { SlotPromise day (windows releases.now deadlines.now) starts.now slot (slot_answer result) }
 {
-    let claimed = claim::judge(day, releases, deadlines, starts);
-    let answer = claimed.answer;
-    if answer.code != code::DONE {
-        return no_slot(answer);
-    }
+    let rows = claim::judge(day, releases, deadlines, starts)?;
     if slot >= day.slots {
-        return no_slot(Answer::of(code::NO_SUCH_SLOT));
+        return Err(Refusal::NoSuchSlot);
     }
-    let rows = claimed.rows;
-    let slots = day::wide(day.slots);
-    let fill = walk::fill_at(day.power, &rows[..slots], day::wide(slot));
-    let held = SlotFill { slot, fill };
-    SlotAnswer { answer, held }
+    let slots = usize::from(day.slots);
+    let fill = walk::fill_at(day.power, &rows[..slots], usize::from(slot));
+    Ok(SlotFill { slot, fill })
 }

@@ -5,7 +5,7 @@ ghost use Rattle.day.specs.Gap.{asleep};
 ghost use Rattle.checks.specs.Check.{most_slots};
 ghost use Rattle.ledger.specs.Fills.{Fills};
 ghost use Rattle.ledger.specs.Count.{Counted};
-ghost use Rattle.ledger.specs.steps.Run.{RunStart};
+ghost use Rattle.ledger.specs.steps.Run.{JobBefore};
 
 use crate::{Counts, Fill};
 use day::Power;
@@ -14,10 +14,7 @@ use day::Power;
 fn slept(power: Power, gap: u16) -> u16
     ensures { result ≡ cond (asleep power gap) gap 0 }
 {
-    if power.asleep(gap) {
-        return gap;
-    }
-    0
+    if power.asleep(gap) { gap } else { 0 }
 }
 
 // The five counts.
@@ -25,14 +22,13 @@ pub(crate) fn count(power: Power, rows: &[u16]) -> Counts
     requires { length rows.now ≤ most_slots }
     ensures { Counted (asleep power) (length rows.now) (at rows.now) result }
 {
-    let first = claim::slots::next_job(rows, 0);
+    let first = claim::slots::next_job(rows, 0).unwrap_or(rows.len());
     let mut job: u16 = 0;
     let mut awake: u16 = 0;
     let mut asleep: u16 = 0;
     let mut empty: u16 = 0;
-    let mut slot = first;
-    while slot < rows.len() {
-        if rows[slot] == 0 {
+    for row in &rows[first..] {
+        if *row == 0 {
             empty += 1;
         } else {
             let dark = slept(power, empty);
@@ -41,7 +37,6 @@ pub(crate) fn count(power: Power, rows: &[u16]) -> Counts
             job += 1;
             empty = 0;
         }
-        slot += 1;
     }
     Counts {
         before: first as u16,
@@ -52,19 +47,17 @@ pub(crate) fn count(power: Power, rows: &[u16]) -> Counts
     }
 }
 
-// The first of the empty slots that end just before `slot`.
-fn run_start(rows: &[u16], slot: usize) -> usize
+// The last slot before `slot` that holds a job.
+fn last_job(rows: &[u16], slot: usize) -> Option<usize>
     requires { slot ≤ length rows.now }
-    ensures { RunStart rows.now slot result }
+    ensures { JobBefore (at rows.now) slot result }
 {
-    let mut start = slot;
-    while start > 0 {
-        if rows[start - 1] != 0 {
-            return start;
+    for last in (0..slot).rev() {
+        if rows[last] != 0 {
+            return Some(last);
         }
-        start -= 1;
     }
-    start
+    None
 }
 
 // What fills a slot.
@@ -76,16 +69,15 @@ pub(crate) fn fill_at(power: Power, rows: &[u16], slot: usize) -> Fill
     if row != 0 {
         return Fill::Job(row);
     }
-    let start = run_start(rows, slot);
-    if start == 0 {
+    let Some(last) = last_job(rows, slot) else {
         return Fill::Before;
-    }
-    let end = claim::slots::next_job(rows, slot);
-    if end == rows.len() {
+    };
+    let Some(next) = claim::slots::next_job(rows, slot) else {
         return Fill::After;
+    };
+    if power.asleep((next - last - 1) as u16) {
+        Fill::Asleep
+    } else {
+        Fill::Awake
     }
-    if power.asleep((end - start) as u16) {
-        return Fill::Asleep;
-    }
-    Fill::Awake
 }

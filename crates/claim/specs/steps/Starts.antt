@@ -6,9 +6,8 @@ use Rattle.day.specs.declared.Power.{Power}
 use Rattle.day.specs.Windows.{Windows, at}
 use Rattle.day.specs.Gap.{price, gaps, total}
 use Rattle.checks.specs.Refusal.{◌then◌, Passed}
-use Rattle.claim.specs.declared.Claimed.{Claimed}
 use Rattle.claim.specs.Claim.{StartsCheck, Costs}
-use Rattle.claim.specs.Rows.{holds_job, RowsBeside}
+use Rattle.claim.specs.Rows.{holds_job, Claimed, RowsBeside}
 
 -- the answer, and the rows in their slots
 pub record StartsJudged (w : Windows) (starts : List ℕ) (claimed : Claimed) : Type 0 where

@@ -1,10 +1,14 @@
--- Runs of empty slots in a list of rows by slot.
-use Rattle.std.specs.Prelude.{ℕ, ◌-◌, ◌≤◌, ◌<◌, List}
-use Rattle.day.specs.Windows.{at}
+-- The last job before a slot, by the row in each slot.
+use Rattle.std.specs.Prelude.{ℕ, ◌<◌, Option, Some, None}
 use Rattle.ledger.specs.Fills.{Empty, Busy}
 
--- the slots from start on and before slot are empty, and start is the first such
-pub record RunStart (rows : List ℕ) (slot start : ℕ) : Type 0 where
-  pub earlier : start ≤ slot
-  pub empty : (u : ℕ) → start ≤ u → u < slot → Empty (at rows) u
-  pub job : 0 < start → Busy (at rows) (start - 1)
+-- the last job before slot t stands at slot `last`
+pub record LastJob (row : ℕ → ℕ) (t last : ℕ) : Type 0 where
+  pub earlier : last < t
+  pub job : Busy row last
+  pub empty : (u : ℕ) → last < u → u < t → Empty row u
+
+-- the last job before slot t, or none
+abbrev pub JobBefore : (ℕ → ℕ) → ℕ → Option ℕ → Type 0
+JobBefore row t (Some last) = LastJob row t last
+JobBefore row t None = (u : ℕ) → u < t → Empty row u

@@ -1,11 +1,7 @@
 -- `claim::slots::cost` meets its contract. Assumes nothing.
-use Prim.Native.Nat.{◌-◌}
-use lib.ListN.{length}
+use Prim.Native.Nat.{◌+◌}
 use Rattle.claim.proofs.Paying.{Paying}
 use Rattle.claim.proofs.slots.cost.Given as goal
 
-abbrev pub invariant-loop-slot : goal.invariant-loop-slot
-invariant-loop-slot l = Paying l.power l.rows l.cost l.empty l.slot
-
-abbrev pub decreases-loop-slot : goal.decreases-loop-slot
-decreases-loop-slot l = length l.rows - l.slot
+abbrev pub invariant-loop-row : goal.invariant-loop-row
+invariant-loop-row l = Paying l.power l.rows l.cost l.empty (l.first + l.row-index)

@@ -1,13 +1,11 @@
 -- `ledger::walk::count` meets its contract. Assumes nothing.
-use Prim.Native.Nat.{◌-◌}
+use Prim.Native.Nat.{◌+◌}
 use lib.ListN.{length}
 use Rattle.day.specs.Windows.{at}
 use Rattle.day.specs.Gap.{asleep as sleeping}
 use Rattle.ledger.proofs.Walked.{Walked}
 use Rattle.ledger.proofs.walk.count.Given as goal
 
-abbrev pub invariant-loop-slot : goal.invariant-loop-slot
-invariant-loop-slot l = Walked (sleeping l.power) (length l.rows) (at l.rows) l.first l.job l.awake l.asleep l.empty l.slot
-
-abbrev pub decreases-loop-slot : goal.decreases-loop-slot
-decreases-loop-slot l = length l.rows - l.slot
+abbrev pub invariant-loop-row : goal.invariant-loop-row
+invariant-loop-row l =
+    Walked (sleeping l.power) (length l.rows) (at l.rows) l.first l.job l.awake l.asleep l.empty (l.first + l.row-index)
