@@ -2,14 +2,16 @@
 use Prim.Native.Nat.{ℕ, ◌-◌, ◌≤◌, ◌<◌}
 use mathlib.Core.Logic.{◌⊎◌, inl, inr}
 use native.Mathlib.Omega.{arith}
+use Rattle.std.proofs.Common.{Option, Some, None}
 use Rattle.day.specs.Windows.{Windows}
 use Rattle.day.specs.Plan.{SomePlan, NoPlan}
 use Rattle.day.specs.Count.{Count}
-use Rattle.day.proofs.Cases.{give, on_le, on_eq}
+use Rattle.day.proofs.Cases.{give, on_le}
 use Rattle.day.proofs.Count.{count_at_most, pigeonhole}
 use Rattle.checks.specs.Check.{GoodRows}
 use Rattle.crowd.specs.declared.CrowdedSpan.{CrowdedSpan}
 use Rattle.crowd.specs.Crowded.{Inside, slots_of, Crowded, SpanShown}
+use Rattle.crowd.specs.steps.Search.{ShortestIn}
 use Rattle.crowd.proofs.Inside.{inside_count, inside_none}
 use Rattle.crowd.proofs.CalmPlan.{calm_plan}
 use Rattle.crowd.proofs.Search.{shortest_or_none}
@@ -58,8 +60,9 @@ module _ {limit slots : ℕ} {w : Windows} (good : GoodRows limit slots w) where
       })
 
   -- there is a span to show, or a plan
+  shown_or_plan_of : (shown : Option CrowdedSpan) → ShortestIn (Crowded slots w) shown → ((span : CrowdedSpan) × SpanShown slots w span) ⊎ SomePlan w
+  shown_or_plan_of (Some shown) s = inl (shown, s)
+  shown_or_plan_of None s = inr (not_crowded_plan s)
+
   pub shown_or_plan : ((span : CrowdedSpan) × SpanShown slots w span) ⊎ SomePlan w
-  shown_or_plan =
-      give (shortest_or_none slots w)
-      (λ s.
-      on_eq s.0.jobs 0 (λ e. inr (not_crowded_plan (s.1.none e).1)) (λ e. inl (s.0, s.1.found (omega arith))))
+  shown_or_plan = give (shortest_or_none slots w) (λ s. shown_or_plan_of s.0 s.1)

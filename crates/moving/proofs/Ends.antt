@@ -1,6 +1,6 @@
 -- Where exactly a moved window leaves the day, at either end, in numbers without a sign; the smallest shift, a shift of 0, and an
 -- empty list. Assumes nothing.
-use Prim.Native.Nat.{ℕ, suc, ◌+◌, ◌-◌, ◌<◌, ◌≤◌}
+use Prim.Native.Nat.{ℕ, ◌+◌, ◌<◌, ◌≤◌}
 use mathlib.Core.Path.{◌≡◌, refl, ap}
 use mathlib.Core.Logic.{inl, inr, ⊎_elim}
 use mathlib.Core.List.{List, []}
@@ -8,35 +8,31 @@ use native.Mathlib.Nat.{add-zero}
 use native.Mathlib.Omega.{arith}
 use lib.ListN.{length}
 use lib.IntN.{ℤ, pos, negsuc}
-use borrow.Author.Tests.{lt-ltb, le-ltb}
+use Rattle.std.proofs.lemmas.Int.{ints}
 use Rattle.checks.specs.declared.Answer.{Answer}
 use Rattle.day.specs.Windows.{at}
 use Rattle.checks.specs.Answer.{says, done, leaves_day}
 use Rattle.checks.specs.Refusal.{goes_on}
 use Rattle.checks.proofs.Refusal.{Avoids, passed_avoids, then_avoids, IsCheck, then_clear}
 use Rattle.moving.specs.Moving.{WindowLeaves, MovedList}
-use Rattle.moving.proofs.Signs.{below, not_below}
 use Rattle.moving.proofs.Unique.{moved_list_unique}
 
 -- n + 1 slots earlier, a release of at most n is before slot 0
 pub too_early : (slots n release deadline : ℕ) → release ≤ n → WindowLeaves slots (negsuc n) release deadline
-too_early slots n release deadline h = inl (rw (lt-ltb release (suc n) (omega arith)) (below (negsuc (suc n - suc release)) (pos 0) refl))
+too_early slots n release deadline h = inl (omega (arith, ints))
 
 pub early_stays : (slots n release deadline : ℕ) → n < release → release < deadline → deadline ≤ slots
     → WindowLeaves slots (negsuc n) release deadline → ⊥
 early_stays slots n release deadline h l u =
-    rw (le-ltb release (suc n) (omega arith), le-ltb deadline (suc n) (omega arith))
-    (⊎_elim (not_below (pos (release - suc n)) (pos 0) (le-ltb (release - suc n) 0 (omega arith)))
-    (not_below (pos slots) (pos (deadline - suc n)) (le-ltb slots (deadline - suc n) (omega arith))))
+    ⊎_elim (λ z. omega (arith, ints)) (λ z. omega (arith, ints))
 
 -- n slots later, a deadline ends after the day exactly if the sum does
 pub too_late : (slots n release deadline : ℕ) → slots < deadline + n → WindowLeaves slots (pos n) release deadline
-too_late slots n release deadline h = inr (below (pos slots) (pos (deadline + n)) (lt-ltb slots (deadline + n) h))
+too_late slots n release deadline h = inr (omega (arith, ints))
 
 pub late_stays : (slots n release deadline : ℕ) → deadline + n ≤ slots → WindowLeaves slots (pos n) release deadline → ⊥
 late_stays slots n release deadline h =
-    ⊎_elim (not_below (pos (release + n)) (pos 0) (le-ltb (release + n) 0 (omega arith)))
-    (not_below (pos slots) (pos (deadline + n)) (le-ltb slots (deadline + n) h))
+    ⊎_elim (λ z. omega (arith, ints)) (λ z. omega (arith, ints))
 
 -- -32,768 slots: no release of a day comes to lie in it
 pub smallest_leaves : (slots release deadline : ℕ) → release < 32768 → WindowLeaves slots (negsuc 32767) release deadline

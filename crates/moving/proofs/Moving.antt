@@ -7,7 +7,7 @@ use native.Mathlib.Omega.{arith}
 use lib.ListN.{length}
 use lib.IntN.{ℤ, pos, negsuc, ◌+ℤ◌}
 use lib.Signed.{lt_z, ◌<ℤ◌}
-use borrow.Author.Tests.{lt-ltb, le-ltb}
+use Rattle.std.proofs.lemmas.Int.{ints}
 use Rattle.checks.specs.declared.Answer.{Answer}
 use Rattle.day.specs.Windows.{Windows, windows}
 use Rattle.day.specs.Moved.{Shifts, Moved}
@@ -19,7 +19,7 @@ use Rattle.checks.proofs.Refusal.{IsCheck, refuses_row_is_check, then_is_check, 
 use Rattle.checks.proofs.Check.{times_is_check, clear_slots, clear_good_rows}
 use Rattle.moving.specs.Moving.{WindowLeaves, MoveCheck, RowsMoved}
 use Rattle.moving.specs.steps.Movable.{Movable}
-use Rattle.moving.proofs.Signs.{below, not_below, shift_keeps_order}
+use Rattle.moving.proofs.Signs.{below, not_below}
 
 -- where a window goes that stays in the day
 pub record Stays (slots : ℕ) (by : ℤ) (release deadline : ℕ) : Type 0 where
@@ -40,21 +40,21 @@ leaves_known slots by release deadline =
 -- an integer that is not below 0 is a number, and so is one above a number
 not_below_zero : (z : ℤ) → (z <ℤ pos 0 → ⊥) → (x : ℕ) × (z ≡ pos x)
 not_below_zero (pos x) h = (x, refl)
-not_below_zero (negsuc x) h = absurd (h (below (negsuc x) (pos 0) refl))
+not_below_zero (negsuc x) h = absurd (h (omega (arith, ints)))
 
 above_number : (y : ℕ) (z : ℤ) → pos y <ℤ z → (x : ℕ) × (z ≡ pos x) × (y < x)
-above_number y (pos x) h = (x, refl, on_le x y (λ l. absurd (not_below (pos y) (pos x) (le-ltb y x l) h)) (λ l. l))
-above_number y (negsuc x) h = absurd (not_below (pos y) (negsuc x) refl h)
+above_number y (pos x) h = (x, refl, omega (arith, ints))
+above_number y (negsuc x) h = absurd (omega (arith, ints))
 
 not_above : (x y : ℕ) → (pos x <ℤ pos y → ⊥) → y ≤ x
-not_above x y h = on_le y x (λ l. l) (λ l. absurd (h (below (pos x) (pos y) (lt-ltb x y l))))
+not_above x y h = on_le y x (λ l. l) (λ l. absurd (h (omega (arith, ints))))
 
 pub stays : {slots : ℕ} {by : ℤ} {release deadline : ℕ} → release < deadline → (WindowLeaves slots by release deadline → ⊥)
     → Stays slots by release deadline
 stays {slots} {by} {release} {deadline} h clear =
     give (not_below_zero (pos release +ℤ by) (λ l. clear (inl l)))
     (λ b.
-    give (above_number b.0 (pos deadline +ℤ by) (rw b.1 at (shift_keeps_order by release deadline h)))
+    give (above_number b.0 (pos deadline +ℤ by) (omega (arith, ints, b.1)))
     (λ e.
     record {
       begin = b.0;

@@ -1,44 +1,27 @@
 -- `moving::check_move` meets its contract. Assumes nothing.
+use mathlib.Core.Path.{refl}
 use native.Mathlib.Omega.{arith}
-use lib.ListN.{length}
 use mir.Syntax.{w16}
 use mir.ValLaws.{to_z-of_z}
-use Rattle.day.specs.Windows.{windows}
 use Rattle.checks.specs.Refusal.{stops, goes_on}
-use Rattle.checks.specs.steps.FirstOrEnd.{FirstOrEnd}
 use Rattle.checks.proofs.Check.{times_is_check, clear_good_rows}
-use Rattle.checks.proofs.Refusal.{then_group, then_refused, then_passed, then_clear, clear_next, passed_clear, found_refused, end_clear}
-use Rattle.moving.specs.Moving.{LeavesDay}
+use Rattle.checks.proofs.Refusal.{passed_clear, then_clear, clear_next, none_clear, found_refused}
+use Rattle.checks.proofs.Refused.{then_ok}
 use Rattle.moving.proofs.check_move.Goals as goal
-use Rattle.moving.proofs.check_move.Goals.{After-first_leaving-row}
 
--- what the search found, of the shift as it came in
-searched : (c : After-first_leaving-row) →
-    FirstOrEnd (length c.args.releases.now)
-    (LeavesDay c.args.slots c.args.by (windows c.args.releases.now c.args.deadlines.now))
-    c.first_leaving-row.result
-searched c =
-    rw (to_z-of_z w16 c.args.by c.ranges.by) at c.first_leaving-row.ensures
+pub returns-in-Some : goal.returns-in-Some
+returns-in-Some c =
+    stops (then_ok times_is_check c.in_ok-check_times.ensures _ (found_refused _ (rw (to_z-of_z w16 c.args.by c.ranges.by) at c.in-Some.ensures)))
 
-pub returns-then-times-ne-DONE : goal.returns-then-times-ne-DONE
-returns-then-times-ne-DONE c = then_group _ (then_refused _ c.check_times-times.ensures c.if-times-ne-DONE.true)
-
-pub returns-then-row-releases : goal.returns-then-row-releases
-returns-then-row-releases c =
+pub returns-in-None : goal.returns-in-None
+returns-in-None c =
     goes_on
-    (then_clear (passed_clear times_is_check _ c.check_times-times.ensures c.if-times-ne-DONE.false)
-    (end_clear _ (searched (goal.at.returns-then-row-releases c).After-first_leaving-row) (omega arith)))
-    c.of.ensures
+    (then_clear (passed_clear times_is_check _ c.in_ok-check_times.ensures refl)
+    (none_clear (rw (to_z-of_z w16 c.args.by c.ranges.by) at c.in-None.ensures)))
+    refl
 
-pub overflow_cast-number : goal.overflow_cast-number
-overflow_cast-number c =
-    omega (
-      arith,
-      (clear_good_rows (clear_next (passed_clear times_is_check _ c.check_times-times.ensures c.if-times-ne-DONE.false))).count,
-    )
-
-pub returns : goal.returns
-returns c =
-    stops
-    (then_passed times_is_check _ _ c.check_times-times.ensures c.if-times-ne-DONE.false
-    (found_refused _ (searched (goal.at.returns c).After-first_leaving-row) (omega arith)))
+-- an accepted list has few rows
+pub overflow_cast-result : goal.overflow_cast-result
+overflow_cast-result c =
+    let good = clear_good_rows (clear_next (passed_clear times_is_check _ c.in_ok-check_times.ensures refl)) in
+    record { fits = omega (arith, good.count, c.in-Some.ensures.within) }
