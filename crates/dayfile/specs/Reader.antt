@@ -1,16 +1,23 @@
 -- What the reader promises. T, L and windows are not judged, and the notes are not looked at.
-use Rattle.std.specs.Prelude.{ℕ, ◌<◌, min, ◌≡◌, List, length}
+use Rattle.std.specs.Prelude.{ℕ, ◌<◌, min, ◌≡◌, List, length, Result, Ok, Err}
 use Rattle.checks.specs.declared.Answer.{Answer}
-use Rattle.checks.specs.Answer.{done, too_many_jobs, short_file, wrong_mark, wrong_distance, cut_file, few_rows}
+use Rattle.checks.specs.declared.outcome.Refusal.{Refusal}
+use Rattle.checks.specs.Answer.{says, done, refused, too_many_jobs, short_file, wrong_mark, wrong_distance, cut_file, few_rows}
 use Rattle.checks.specs.Refusal.{◌then◌, Refuses, Passed}
 use Rattle.checks.specs.Check.{most_jobs}
 use Rattle.day.specs.Changed.{FirstFilled}
+use Rattle.dayfile.specs.declared.reader.Header.{Header}
 use Rattle.dayfile.specs.declared.reader.Reading.{Reading}
 use Rattle.dayfile.specs.Format.{distance_back, count_in, slots_in, wake_in, distance_in, HasMark, release_in, deadline_in}
 
 -- under a refusal n, T and L are 0
 abbrev pub no_reading : Answer → Reading
 no_reading answer = record { answer = answer; count = 0; day = record { slots = 0; power = record { wake = 0 } } }
+
+-- the reader's outcome as a reading
+abbrev pub as_reading : Result Header Refusal → Reading
+as_reading (Ok header) = record { answer = says done 0 0; count = header.count; day = header.day }
+as_reading (Err refusal) = no_reading (refused refusal)
 
 -- new is old with the first n places filled from f
 abbrev pub FilledFrom : ℕ → (ℕ → ℕ) → List ℕ → List ℕ → Type 0

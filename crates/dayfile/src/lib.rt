@@ -3,7 +3,7 @@
 
 pub mod reader;
 
-pub use reader::{Reading, read};
+pub use reader::{Header, Reading, read};
 
 // A row's bytes: release and deadline.
 pub const ROW: usize = 4;

@@ -1,5 +1,5 @@
 -- What holds of a buffer that the writer accepts. Assumes nothing.
-use Prim.Native.Nat.{ℕ, ◌≤◌}
+use Prim.Native.Nat.{ℕ}
 use mathlib.Core.Path.{◌≡◌}
 use native.Mathlib.Omega.{arith}
 use Rattle.checks.specs.declared.Answer.{Answer}
@@ -8,14 +8,10 @@ use Rattle.checks.specs.Refusal.{◌then◌, Passed}
 use Rattle.checks.specs.Check.{most_jobs}
 use Rattle.day.proofs.Cases.{on_le}
 use Rattle.checks.proofs.Refusal.{IsCheck, refuses_is_check, then_is_check, passed_clear, clear_first, clear_next, no_fault}
-use Rattle.filewriter.specs.Writer.{file_length, RoomCheck}
+use Rattle.filewriter.specs.Writer.{file_length, RoomCheck, Writable}
 
 pub room_is_check : (m n room : ℕ) → IsCheck (RoomCheck m n room)
 room_is_check m n room = then_is_check (refuses_is_check (λ e. omega arith)) (refuses_is_check (λ e. omega arith))
-
-pub record Writable (m n room : ℕ) : Type 0 where
-  pub few : n ≤ most_jobs
-  pub fits : file_length m n ≤ room
 
 pub writable : {m n room : ℕ} {a : Answer} → a.code ≡ done → (RoomCheck m n room then Passed) a → Writable m n room
 writable {m} {n} {room} {a} e p =

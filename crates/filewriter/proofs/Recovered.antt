@@ -19,13 +19,13 @@ use Rattle.day.proofs.Changed.{changed_as}
 use Rattle.dayfile.specs.declared.reader.Reading.{Reading}
 use Rattle.dayfile.specs.Format.{rows_bytes, rows_and_trailer, distance_back, count_in, slots_in, wake_in, distance_in, HasMark, release_in, deadline_in}
 use Rattle.dayfile.specs.Reader.{FileCheck, ReadPromise}
-use Rattle.filewriter.specs.Writer.{file_length, WritePromise}
+use Rattle.filewriter.specs.Writer.{file_length, Writable, WritePromise}
 use Rattle.filewriter.specs.Recovered.{Recovered}
 use Rattle.filewriter.proofs.Format.{length_rows_bytes, length_rows_and_trailer}
 use Rattle.dayfile.proofs.RowsRead.{day_ext}
 use Rattle.day.proofs.Stored.{stored_length}
 use Rattle.filewriter.proofs.Stands.{Stands, stored_stands, stands_first, stands_next, rows_stand, trailer_stands}
-use Rattle.filewriter.proofs.Accepted.{Writable, writable}
+use Rattle.filewriter.proofs.Accepted.{writable}
 
 -- what a file says in which rows and trailer stand last
 pub record Says (file : List ℕ) (day : Day) (w : Windows) : Type 0 where

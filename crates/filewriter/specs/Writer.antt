@@ -1,5 +1,5 @@
 -- What the writer promises. T, L and windows may have any value.
-use Rattle.std.specs.Prelude.{ℕ, ◌+◌, ◌<◌, ◌≡◌, List, length}
+use Rattle.std.specs.Prelude.{ℕ, ◌+◌, ◌<◌, ◌≤◌, ◌≡◌, List, length}
 use Rattle.checks.specs.declared.Answer.{Answer}
 use Rattle.day.specs.declared.Day.{Day}
 use Rattle.day.specs.Windows.{windows}
@@ -17,6 +17,11 @@ file_length m n = m + distance_back n
 abbrev pub RoomCheck : ℕ → ℕ → ℕ → Answer → Type 0
 RoomCheck m n room =
     Refuses too_many_jobs (most_jobs < n) then Refuses no_room (room < file_length m n)
+
+-- what holds of a buffer that is not refused
+pub record Writable (m n room : ℕ) : Type 0 where
+  pub few : n ≤ most_jobs
+  pub fits : file_length m n ≤ room
 
 pub record WritePromise (m : ℕ) (day : Day) (releases deadlines file : List ℕ) (a : Answer) (file-after : List ℕ) : Type 0 where
   pub answer : (RoomCheck m (length releases) (length file) then Passed) a

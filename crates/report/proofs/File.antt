@@ -1,4 +1,5 @@
 -- Laws of planning a file: what each way of answering gives. Assumes nothing.
+use Rattle.std.specs.Prelude.{Err}
 use Prim.Native.Nat.{ℕ, ◌≤◌, min}
 use mathlib.Core.Path.{◌≡◌, refl}
 use mathlib.Core.List.{List}
@@ -7,11 +8,13 @@ use lib.ListN.{length, take}
 use Rattle.checks.specs.declared.Answer.{Answer}
 use Rattle.day.specs.declared.Day.{Day}
 use Rattle.day.specs.Windows.{Windows, windows}
-use Rattle.checks.specs.Answer.{done, no_plan}
+use Rattle.checks.specs.declared.outcome.Refusal.{Refusal}
+use Rattle.checks.specs.Answer.{done, no_plan, refused}
 use Rattle.checks.specs.Refusal.{◌then◌, stops, goes_on, Passed}
 use Rattle.checks.specs.Check.{Accepted, ListCheck, most_jobs}
 use Rattle.checks.specs.Planned.{Planned}
-use Rattle.checks.proofs.Refusal.{Avoids, refuses_avoids, passed_avoids, then_avoids, then_clear, then_group, then_next, then_refused, passed_clear}
+use Rattle.checks.proofs.Refusal.{code_of, Avoids, refuses_avoids, passed_avoids, then_avoids, then_clear, then_group, then_next, then_refused, passed_clear}
+use Rattle.checks.proofs.Refused.{refused_not_done}
 use Rattle.checks.proofs.Check.{accepted_clear}
 use Rattle.checks.proofs.Planned.{planned_refused, planned_by, best_held}
 use Rattle.dayfile.specs.declared.reader.Reading.{Reading}
@@ -24,8 +27,8 @@ use Rattle.claim.proofs.Claim.{fit_clear}
 use Rattle.planner.specs.Promise.{PlanCheck}
 use Rattle.planner.proofs.Promise.{plan_is_check, list_accepted, enough_starts}
 use Rattle.ledger.specs.declared.LedgerAnswer.{LedgerAnswer}
-use Rattle.ledger.specs.Promise.{LedgerPromise}
-use Rattle.report.specs.declared.Outcome.{Outcome}
+use Rattle.ledger.specs.Promise.{ledger_answer, LedgerPromise}
+use Rattle.report.specs.Outcome.{Outcome}
 use Rattle.report.specs.File.{no_outcome, Reported, FilePromise}
 use Rattle.report.specs.steps.Rows.{RowsReported}
 
@@ -56,6 +59,10 @@ module _ {day : Day} {w : Windows} {starts table p t : List ℕ} {need : ℕ} {a
         counts = λ d. rw (then_next found_claim_clear answered.answer L.answer) at L;
         refused = λ h. absurd (h e);
       }
+
+  -- and the ledger does not refuse it
+  pub found_counted : (refusal : Refusal) → LedgerPromise day w p (ledger_answer (Err refusal)) → ⊥
+  found_counted refusal L = refused_not_done refusal (code_of (then_next found_claim_clear (refused refusal) L.answer))
 
 module _ {Check CheckOfList : Answer → Type 0} {need : ℕ} {day : Day} {w : Windows} {starts table : List ℕ} where
   -- where nothing was planned, the outcome says no more than the answer

@@ -15,11 +15,14 @@ use Rattle.checks.proofs.Unique.{planned_unique}
 use Rattle.dayfile.specs.Format.{file_day, file_windows}
 use Rattle.dayfile.proofs.Accepted.{file_is_check}
 use Rattle.planner.proofs.Promise.{plan_is_check, list_accepted}
+use Rattle.ledger.specs.declared.Counts.{Counts}
 use Rattle.ledger.specs.declared.LedgerAnswer.{LedgerAnswer}
 use Rattle.ledger.proofs.Unique.{ledgered_unique}
+use Rattle.text.specs.Lines.{lines}
+use Rattle.text.proofs.Lines.{lines_refused}
 use Rattle.text.specs.declared.Text.{Text}
 use Rattle.text.proofs.Unique.{prints_unique}
-use Rattle.report.specs.declared.Outcome.{Outcome}
+use Rattle.report.specs.Outcome.{Outcome}
 use Rattle.report.specs.File.{FilePlanCheck, InputPlanCheck, no_outcome, Reported, FilePromise, InputReported, ReportPromise}
 
 reported_unique : {Check CheckOfList : Answer → Type 0} {need : ℕ} {day : Day} {w : Windows} {starts table p t q u : List ℕ} {o other : Outcome}
@@ -69,6 +72,11 @@ module _ (file starts table : List ℕ) where
             (clear_next (clear_next (passed_clear input_plan_is_check o.answer R.plan.answer e)))).rows.count,
       ))
       (λ h. omega (arith, ap (λ (x : Outcome). x.count) (R.refused h)))
+
+-- a refusal is shown alone, whatever the ledger beside it
+pub refusal_shown : (answer : Answer) (count : ℕ) (start : ℕ → ℕ) (counts other : Counts) → (answer.code ≡ done → ⊥)
+    → lines answer count start counts ≡ lines answer count start other
+refusal_shown answer count start counts other h = lines_refused answer count start counts h ∙ sym (lines_refused answer count start other h)
 
 pub report_unique : (file table : List ℕ) {t u : List ℕ} {text other : Text} → ReportPromise file table text t
     → ReportPromise file table other u → (text ≡ other) × (t ≡ u)

@@ -1,9 +1,10 @@
 -- What planning a day file promises, and the program's text for its input: the reader's, the planner's and the ledger's answers put together.
-use Rattle.std.specs.Prelude.{ℕ, ◌<◌, ◌≡◌, List, length, replicate}
+use Rattle.std.specs.Prelude.{ℕ, ◌<◌, ◌≡◌, List, length, replicate, Result, Ok, Err}
 use Rattle.checks.specs.declared.Answer.{Answer}
+use Rattle.checks.specs.declared.outcome.Refusal.{Refusal}
 use Rattle.day.specs.declared.Day.{Day}
 use Rattle.day.specs.Windows.{Windows, at}
-use Rattle.checks.specs.Answer.{says, done, long_input}
+use Rattle.checks.specs.Answer.{says, done, long_input, refused}
 use Rattle.checks.specs.Refusal.{◌then◌, Refuses}
 use Rattle.checks.specs.Check.{most_jobs, ListCheck}
 use Rattle.checks.specs.Planned.{Planned}
@@ -14,10 +15,17 @@ use Rattle.planner.specs.Promise.{PlanCheck}
 use Rattle.ledger.specs.Promise.{no_counts, Ledgered}
 use Rattle.text.specs.declared.Text.{Text}
 use Rattle.text.specs.Lines.{lines, Prints}
-use Rattle.report.specs.declared.Outcome.{Outcome}
+use Rattle.report.specs.declared.FilePlan.{FilePlan}
+use Rattle.report.specs.Outcome.{Outcome}
 
+-- under a refusal the number of jobs and the ledger are 0
 abbrev pub no_outcome : Answer → Outcome
 no_outcome answer = record { answer = answer; count = 0; counts = no_counts }
+
+-- what planning a file gives as an outcome
+abbrev pub outcome : Result FilePlan Refusal → Outcome
+outcome (Ok plan) = record { answer = says done plan.cost 0; count = plan.count; counts = plan.counts }
+outcome (Err refusal) = no_outcome (refused refusal)
 
 -- a plan with its ledger, for any checks of the planner and of the list, and any need: starts and table go in, and come out as starts_after and
 -- table_after

@@ -46,6 +46,14 @@ decimal_length (suc j) n h =
     (λ large. rw (decimal_large n large, length-append) (omega (arith, decimal_length j (n / 10) (omega arith))))
     (λ small. rw (decimal_small n small) (omega arith))
 
+-- a 16-bit number has at most 5 digits
+pub decimal_short : (n : ℕ) → n < 65536 → length (decimal n) ≤ 5
+decimal_short n h = decimal_length 4 n (omega arith)
+
+-- a row's number has at most 2
+pub decimal_two : (n : ℕ) → n < 100 → length (decimal n) ≤ 2
+decimal_two n h = decimal_length 1 n (omega arith)
+
 digits_value_snoc : (high : ℕ) (ds : List ℕ) (d : ℕ) → digits_value_after high (ds ++ (d ∷ [])) ≡ 10 * digits_value_after high ds + (d - 48)
 unfolding digits_value_after
 digits_value_snoc high [] d = refl

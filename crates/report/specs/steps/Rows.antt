@@ -3,7 +3,7 @@ use Rattle.std.specs.Prelude.{ℕ, List}
 use Rattle.day.specs.declared.Day.{Day}
 use Rattle.day.specs.Windows.{Windows}
 use Rattle.planner.specs.Promise.{PlanCheck}
-use Rattle.report.specs.declared.Outcome.{Outcome}
+use Rattle.report.specs.Outcome.{Outcome}
 use Rattle.report.specs.File.{ListReported}
 
 abbrev pub RowsReported : Day → Windows → List ℕ → List ℕ → Outcome → List ℕ → List ℕ → Type 0

@@ -1,8 +1,9 @@
--- Bytes put one after the other into a buffer.
-use Rattle.std.specs.Prelude.{ℕ, ◌+◌, ◌≡◌, List, length}
-use Rattle.day.specs.Stored.{Stored}
+-- Bytes put at the end of a text.
+use Rattle.std.specs.Prelude.{ℕ, ◌+◌, ◌≡◌, List, ◌++◌, length}
+use Rattle.text.specs.declared.Text.{Text}
+use Rattle.text.specs.Lines.{Prints}
 
--- the bytes stand at a place, the rest of the buffer is as it was, and `end` is the place after them
-pub record Appended (bytes : List ℕ) (place end : ℕ) (old new : List ℕ) : Type 0 where
-  pub ends : end ≡ place + length bytes
-  pub stored : Stored place bytes old new
+-- whatever the text held, it holds these bytes after it, and is longer by as many
+pub record Appended (bytes : List ℕ) (old new : Text) : Type 0 where
+  pub ends : new.len ≡ old.len + length bytes
+  pub goes_on : (before : List ℕ) → Prints before old → Prints (before ++ bytes) new

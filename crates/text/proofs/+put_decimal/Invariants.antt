@@ -1,5 +1,0 @@
--- `text::put_decimal` calls itself with a tenth of its number.
-use Rattle.text.proofs.+put_decimal.Given as goal
-
-abbrev pub decreases-put_decimal : goal.decreases-put_decimal
-decreases-put_decimal l = l.number
