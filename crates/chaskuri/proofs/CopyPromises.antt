@@ -27,8 +27,6 @@ use Rattle.ledger.specs.declared.LedgerAnswer.{LedgerAnswer}
 use Rattle.ledger.specs.declared.SlotAnswer.{SlotAnswer}
 use Rattle.ledger.specs.Promise.{LedgerPromise, SlotPromise}
 use Rattle.planner.specs.Promise.{PlanCheck, PlanPromise}
-use Rattle.chaskuri.specs.declared.numbers.SlotNumbers.{SlotNumbers}
-use Rattle.chaskuri.specs.Slot.{SlotNumbered}
 use Rattle.rows.specs.Rows.{rows_of}
 use Rattle.rows.specs.steps.InRows.{releases_in, deadlines_in, windows_in}
 use Rattle.rows.specs.Columns.{releases, deadlines, windows_of}
@@ -102,9 +100,6 @@ module _ (jobs : List Job) where
         fill = λ e. absurd (claim_not_done day w v starts h l shown.answer p.answer e);
         refused = p.refused;
       })
-
-  pub list_numbered : (day : Day) (starts : List ℕ) (asked : ℕ) (numbers : SlotNumbers) → SlotNumbered day (windows_in (rows_of 0 jobs)) starts asked numbers → SlotNumbered day (windows_of jobs) starts asked numbers
-  list_numbered day starts asked numbers p = record { shown = p.shown; promised = list_shown day starts asked p.shown p.promised; same = p.same }
 
   pub list_planned : (day : Day) (starts table : List ℕ) (a : Answer) (starts_after table_after : List ℕ) → PlanPromise day (windows_in (rows_of 0 jobs)) starts table a starts_after table_after
       → PlanPromise day (windows_of jobs) starts table a starts_after table_after

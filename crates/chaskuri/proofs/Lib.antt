@@ -1,4 +1,3 @@
-pub mod ByValue
 pub mod CopyPromises
 pub mod PutPromises
 pub mod Unique

@@ -1,4 +1,2 @@
--- One slot's record in numbers, for C; every other entry point promises what its number form promises. What functions promise each other on
--- the way is in `steps`.
+-- One slot's record in numbers, for C; every other entry point promises what its number form promises.
 pub mod Slot
-pub mod steps

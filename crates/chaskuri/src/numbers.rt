@@ -1,7 +1,6 @@
 // One slot's record in numbers, for C, which takes no enum.
 ghost use Rattle.std.specs.Prelude.{◌≡◌};
-ghost use Rattle.ledger.specs.Count.{counted_as};
-ghost use Rattle.chaskuri.specs.Slot.{row_in, in_numbers};
+ghost use Rattle.chaskuri.specs.Slot.{in_numbers};
 
 use checks::Answer;
 use ledger::{Fill, SlotAnswer};
@@ -16,41 +15,22 @@ pub struct SlotNumbers {
     pub row: u16,
 }
 
-fn filling(fill: Fill) -> u16
-    ensures { result ≡ counted_as fill }
-{
-    match fill {
-        Fill::Before => 0,
-        Fill::Job(_row) => 1,
-        Fill::Awake => 2,
-        Fill::Asleep => 3,
-        Fill::After => 4,
-    }
-}
+impl From<SlotAnswer> for SlotNumbers {
+    ghost from_gives = { λ shown numbers. numbers ≡ in_numbers shown };
 
-fn row(fill: Fill) -> u16
-    ensures { result ≡ row_in fill }
-{
-    match fill {
-        Fill::Before => 0,
-        Fill::Job(row) => row,
-        Fill::Awake => 0,
-        Fill::Asleep => 0,
-        Fill::After => 0,
-    }
-}
-
-// A slot's record in numbers.
-pub(crate) fn of_slot(shown: SlotAnswer) -> SlotNumbers
-    ensures { result ≡ in_numbers shown }
-{
-    let answer = shown.answer;
-    let held = shown.held;
-    let fill = held.fill;
-    SlotNumbers {
-        answer,
-        slot: held.slot,
-        filling: filling(fill),
-        row: row(fill),
+    fn from(shown: SlotAnswer) -> SlotNumbers {
+        let (filling, row) = match shown.held.fill {
+            Fill::Before => (0, 0),
+            Fill::Job(row) => (1, row),
+            Fill::Awake => (2, 0),
+            Fill::Asleep => (3, 0),
+            Fill::After => (4, 0),
+        };
+        SlotNumbers {
+            answer: shown.answer,
+            slot: shown.held.slot,
+            filling,
+            row,
+        }
     }
 }

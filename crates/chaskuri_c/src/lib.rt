@@ -1,4 +1,5 @@
-// The door for the notebook's firmware: what C can call, each call a function of `chaskuri` with the same promise. C's header is include/chaskuri.h.
+// The door for the notebook's firmware: what C can call, each call a function of `chaskuri` with the same promise: an export
+// stands in a static library, and Rattle calls the other. C's header is include/chaskuri.h.
 #![tactic(auto)]
 
 ghost use Rattle.checks.specs.Refusal.{◌then◌, Passed};

@@ -1,4 +1,5 @@
-// The cut list: what the hour leaves of a list whose plan is held.
+// The cut list: what the hour leaves of a list whose plan is held. Releases and deadlines are two lists of numbers,
+// as 01's number form has them and the public promises speak of them.
 #![tactic(auto)]
 
 ghost use Rattle.std.specs.Prelude.{◌≡◌, min};
@@ -6,9 +7,9 @@ ghost use Rattle.checks.specs.Check.{most_jobs};
 ghost use Rattle.cutlist.specs.Cut.{is_done, raised, cut_release, cut_deadline};
 ghost use Rattle.cutlist.specs.CutRows.{HoldsCut};
 
-use day::{at_or_zero, lesser};
+use day::at_or_zero;
 
-// The windows of a cut list, one for each row.
+// The windows of a cut list, one for each row, as the two columns that a planner takes.
 #[derive(Drop)]
 pub struct CutRows {
     pub releases: [u16; 40],
@@ -16,10 +17,11 @@ pub struct CutRows {
 }
 
 // A release, raised to the current slot where it is lower.
+#[tactic(auto, unfolding(crate::specs::Cut::raised))]
 pub fn raise(slot: u16, release: u16) -> u16
     ensures { result ≡ raised slot release }
 {
-    if release < slot { slot } else { release }
+    release.max(slot)
 }
 
 // Whether a job with this start is done.
@@ -29,6 +31,8 @@ fn is_done(slot: u16, start: u16) -> bool
     start < slot
 }
 
+// The release and the deadline of a cut list's row; two functions, since a done job's window is its slot by two rules.
+#[tactic(auto, unfolding(crate::specs::Cut::cut_release))]
 fn cut_release(slot: u16, start: u16, release: u16) -> u16
     ensures { result ≡ cut_release slot start release }
 {
@@ -38,6 +42,7 @@ fn cut_release(slot: u16, start: u16, release: u16) -> u16
     raise(slot, release)
 }
 
+#[tactic(auto, unfolding(crate::specs::Cut::cut_deadline))]
 fn cut_deadline(slot: u16, start: u16, deadline: u16) -> u16
     ensures { result ≡ cut_deadline slot start deadline }
 {
@@ -57,18 +62,14 @@ pub fn cut_rows(
 ) -> CutRows
     ensures { HoldsCut slot (min count most_jobs) releases.now deadlines.now starts.now result }
 {
-    let end = lesser(count, 40);
-    let mut cut_releases = [0u16; 40];
-    let mut cut_deadlines = [0u16; 40];
-    let mut row: usize = 0;
-    while row < end {
+    let mut cut = CutRows {
+        releases: [0; 40],
+        deadlines: [0; 40],
+    };
+    for row in 0..count.min(40) {
         let start = at_or_zero(starts, row);
-        cut_releases[row] = cut_release(slot, start, at_or_zero(releases, row));
-        cut_deadlines[row] = cut_deadline(slot, start, at_or_zero(deadlines, row));
-        row += 1;
+        cut.releases[row] = cut_release(slot, start, at_or_zero(releases, row));
+        cut.deadlines[row] = cut_deadline(slot, start, at_or_zero(deadlines, row));
     }
-    CutRows {
-        releases: cut_releases,
-        deadlines: cut_deadlines,
-    }
+    cut
 }

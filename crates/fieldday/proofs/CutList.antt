@@ -14,6 +14,7 @@ use Rattle.day.proofs.Plan.{same_rows_turned}
 use Rattle.day.proofs.Joined.{beside_last, beside_first}
 use Rattle.day.proofs.Beside.{second_no_plan}
 use Rattle.checks.specs.declared.Answer.{Answer}
+use Rattle.checks.specs.Answer.{done}
 use Rattle.checks.specs.Refusal.{goes_on}
 use Rattle.checks.specs.Check.{most_jobs, Accepted}
 use Rattle.checks.specs.Planned.{Planned}
@@ -132,3 +133,15 @@ cut_planned {f} {w} {release} {deadline} {table} {a} sound fits h places same P 
     clear =
         then_clear (accepted_clear accepted)
         (then_clear (λ b r. omega (arith, r.fault, accepted.rows.count)) (λ b r. omega (arith, r.fault, fits.room, ap (need f.day.slots) same.count)))
+
+-- the columns of the cut list with a new row put after them, planned
+module _ {f : FieldDay} {c : CutRows} {release deadline n x : ℕ} {table : List ℕ} {a : Answer} {p t : List ℕ} (sound : Sound f)
+    (fits : NewRowFits f release deadline table) (later : f.slot < deadline) (places : length f.starts ≡ most_jobs)
+    (cut : HoldsCut f.slot f.count f.releases f.deadlines f.starts c) (last : n ≡ f.count) (raise : x ≡ raised f.slot release)
+    (P : PlanPromise f.day (windows (take (n + 1) (set c.releases n x)) (take (n + 1) (set c.deadlines n deadline))) f.starts table a p t) where
+  pub cut_replanned : Planned Never (need f.day.slots (f.count + 1)) f.day (cut_with f release deadline) f.starts table a p t
+  cut_replanned = cut_planned sound fits later places (columns_with f cut release deadline n x last (omega (arith, fits.count)) raise) P
+
+  -- where no plan is found the starts are those that there were
+  pub cut_unplanned : (a.code ≡ done → ⊥) → Planned Never (need f.day.slots (f.count + 1)) f.day (cut_with f release deadline) f.starts table a f.starts t
+  cut_unplanned h = rw (P.unplanned h) at cut_replanned

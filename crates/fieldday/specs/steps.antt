@@ -1,3 +1,5 @@
--- What functions of a field day promise each other.
-pub mod Sound
+-- What functions promise each other on the way.
+pub mod Came
 pub mod NewRow
+pub mod Replanned
+pub mod Sound

@@ -71,12 +71,12 @@ module _ (from : ℕ) (jobs : List Job) where
   pub copied_deadlines : deadlines_in (rows_of from jobs) ≡ take 41 (deadlines (drop from jobs))
   copied_deadlines = column_copied (λ job. job.deadline) refl (λ rows. rows.deadlines) (λ _. refl) (λ rows i job. refl) from jobs
 
-  pub rows_fit : RowsFit (rows_of from jobs)
-  rows_fit =
-      record {
+  pub rows_fit : {rows : Rows} → rows ≡ rows_of from jobs → RowsFit rows
+  rows_fit e =
+      rw e (record {
         releases = column_fits (λ job. job.release) refl (λ rows. rows.releases) (λ _. refl) (λ rows i job. refl) from jobs;
         deadlines = column_fits (λ job. job.deadline) refl (λ rows. rows.deadlines) (λ _. refl) (λ rows i job. refl) from jobs;
-      }
+      })
 
 -- a whole list
 module _ (jobs : List Job) where

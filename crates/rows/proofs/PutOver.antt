@@ -1,11 +1,12 @@
 -- A list with rows put over its own: the rows up to their count, and beyond it what the list held. Assumes nothing.
 use Prim.Native.Nat.{ℕ, zero, suc, ◌+◌, ◌<◌, ◌≤◌}
-use mathlib.Core.Path.{◌≡◌, refl, sym, ◌∙◌, ap, subst}
-use mathlib.Core.List.{List, [], ◌∷◌, map}
+use mathlib.Core.Path.{◌≡◌, sym, ◌∙◌, ap, subst}
+use mathlib.Core.List.{List, map}
 use native.Mathlib.Omega.{arith}
 use native.Mathlib.Numerals.{add-one}
 use lib.Dec.{ltb}
-use lib.ListN.{length, set, length-map, length-set}
+use lib.ListN.{length, length-map}
+use Rattle.std.proofs.lemmas.List.{map-set}
 use borrow.Author.Tests.{le-ltb, ltb-true, ltb-false}
 use Rattle.day.proofs.Cases.{on}
 use Rattle.day.specs.declared.Job.{Job}
@@ -26,18 +27,6 @@ put_few places count m e =
     on (ltb places count) (λ g. omega (arith, rw (h, g) at e, ltb-false 41 count h, ltb-true places count g))
     (λ g. omega (arith, rw (h, g) at e, ltb-false 41 count h)))
 
-pub put_length : (k : ℕ) (jobs : List Job) (rows : Rows) → length (put_first k jobs rows) ≡ length jobs
-put_length zero jobs rows = refl
-put_length (suc k) jobs rows = length-set (put_first k jobs rows) k (job_at rows k) ∙ put_length k jobs rows
-
-pub put_none : (jobs : List Job) (rows : Rows) → rows.count ≡ 0 → put_over jobs rows ≡ jobs
-put_none jobs rows e = ap (λ (c : ℕ). put_first (put_count (length jobs) c) jobs rows) e ∙ rw (le-ltb (length jobs) 0 (omega arith))
-
-pub map_set : (f : Job → ℕ) (jobs : List Job) (i : ℕ) (job : Job) → map f (set jobs i job) ≡ set (map f jobs) i (f job)
-map_set f [] i job = refl
-map_set f (j ∷ jobs) zero job = refl
-map_set f (j ∷ jobs) (suc i) job = ap (λ (xs : List ℕ). f j ∷ xs) (map_set f jobs i job)
-
 -- of either column, the first places are filled by the rows
 module _ (jobs : List Job) (rows : Rows) {Right : ℕ → ℕ → Type 0} (f : Job → ℕ) where
   first_filled : (k : ℕ) → k ≤ length jobs → ((i : ℕ) → i < k → Right i (f (job_at rows i)))
@@ -45,7 +34,7 @@ module _ (jobs : List Job) (rows : Rows) {Right : ℕ → ℕ → Type 0} (f : J
   first_filled zero h right = filled_none
   first_filled (suc k) h right =
       subst (λ (n : ℕ). FirstFilled n Right (map f jobs) (map f (put_first (suc k) jobs rows))) (add-one k)
-      (subst (λ (xs : List ℕ). FirstFilled (k + 1) Right (map f jobs) xs) (sym (map_set f (put_first k jobs rows) k (job_at rows k)))
+      (subst (λ (xs : List ℕ). FirstFilled (k + 1) Right (map f jobs) xs) (sym (map-set f (put_first k jobs rows) k (job_at rows k)))
       (filled_next (first_filled k (omega arith) (λ i l. right i (omega arith))) (omega (arith, length-map jobs f)) (right k (omega arith))))
 
   pub put_filled : {n : ℕ} → rows.count ≡ n → n ≤ 41 → n ≤ length jobs → ((i : ℕ) → i < n → Right i (f (job_at rows i)))

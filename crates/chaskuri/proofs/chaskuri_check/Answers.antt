@@ -1,9 +1,5 @@
-use Rattle.rows.proofs.Copied.{rows_fit}
 use Rattle.chaskuri.proofs.CopyPromises.{list_checked}
 use Rattle.chaskuri.proofs.chaskuri_check.Goals as goal
 
-pub check-requires : goal.check-requires
-check-requires c = rw c.copy_out.ensures (rows_fit 0 c.args.jobs.now)
-
 pub returns : goal.returns
-returns c = list_checked c.args.jobs.now c.args.slots c.check.result (rw c.copy_out.ensures at c.check.ensures)
+returns c = rw c.from.ensures (list_checked c.args.jobs.now c.args.slots _ (rw (c.releases.ensures, c.deadlines.ensures, c.copy_out-rows.ensures) at c.check_times.ensures))

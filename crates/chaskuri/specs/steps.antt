@@ -1,2 +1,0 @@
--- What functions over rows by value promise.
-pub mod ByValue
