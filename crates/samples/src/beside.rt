@@ -1,231 +1,135 @@
 // The planner and its companions beside what they have to answer, on one case.
-use crate::{case, direct, slow};
-use checks::{Answer, code};
-use crowd::CrowdedSpan;
-use day::{at_or_zero, lesser, wide};
-use ledger::{Counts, Fill, SlotFill};
-use std::num::{wrapping_add_u16, wrapping_sub_u16};
+use crate::case::Case;
+use crate::{direct, slow};
+use checks::Answer;
+use checks::outcome::Refusal;
+use crowd::{CrowdAnswer, CrowdedSpan};
+use ledger::{Counts, Fill, LedgerAnswer, SlotAnswer, SlotFill};
 
-// Whether the planner gives this answer and these starts, with as many places for starts, and in a table with as many places as the case says.
-pub(crate) fn planned(case: &[u16], answer: Answer, starts: &[u16], table: &mut [u16]) -> bool {
-    let mut written = [slow::UNTOUCHED; 96];
-    let room = lesser(starts.len(), 96);
-    let told = wide(at_or_zero(case, case::PLACES));
-    let places = lesser(told, table.len());
-    gives(
-        case,
-        answer,
-        starts,
-        &mut written[..room],
-        &mut table[..places],
-    ) && places == told
-}
+// The zeros that stand for "no span".
+const NO_SPAN: CrowdedSpan = CrowdedSpan {
+    begin: 0,
+    end: 0,
+    jobs: 0,
+};
 
-fn gives(
-    case: &[u16],
+// Whether the planner gives this answer and these starts, with as many places for starts, and in a table of so many places.
+pub(crate) fn planned(
+    case: Case<'_>,
+    places: usize,
     answer: Answer,
     starts: &[u16],
-    written: &mut [u16],
     table: &mut [u16],
 ) -> bool {
-    let given = planner::plan(
-        case::day(case),
-        case::releases(case),
-        case::deadlines(case),
-        written,
-        table,
-    );
-    same_answer(given, answer) && same_numbers(written, starts)
+    let mut written = [slow::UNTOUCHED; 96];
+    let written = &mut written[..starts.len().min(96)];
+    let Some(table) = table.get_mut(..places) else {
+        return false;
+    };
+    let given = planner::plan(case.day, case.releases, case.deadlines, written, table);
+    Answer::from(given) == answer && *written == *starts
 }
 
 // Whether the search for a crowded span answers what the slow planner's answer and the walk over all spans say.
-pub(crate) fn crowded(case: &[u16], planned: Answer) -> bool {
-    if planned.code == code::BAD_ROW {
-        return shows_span(case, planned, direct::no_span());
+pub(crate) fn crowded(case: Case<'_>, planned: Result<u16, Refusal>) -> bool {
+    match (planned, direct::crowded(case)) {
+        (Err(Refusal::BadRow(_)), _) => shows_span(case, Answer::from(planned), NO_SPAN),
+        (Err(Refusal::NoPlan), Some(span)) => shows_span(case, Answer::done(0), span),
+        (Ok(_), None) => shows_span(case, Answer::from(Refusal::PlanExists), NO_SPAN),
+        _ => false,
     }
-    let span = direct::crowded(case);
-    if planned.code == code::NO_PLAN {
-        return span.jobs > 0 && shows_span(case, Answer::of(code::DONE), span);
-    }
-    span.jobs == 0 && shows_span(case, Answer::of(code::PLAN_EXISTS), span)
 }
 
 // Whether the search for a crowded span gives this answer and this span.
-pub(crate) fn shows_span(case: &[u16], answer: Answer, span: CrowdedSpan) -> bool {
-    let given = crowd::crowded_span(
-        at_or_zero(case, case::SLOTS),
-        case::releases(case),
-        case::deadlines(case),
-    );
-    same_answer(given.answer, answer)
-        && given.span.begin == span.begin
-        && given.span.end == span.end
-        && given.span.jobs == span.jobs
+pub(crate) fn shows_span(case: Case<'_>, answer: Answer, span: CrowdedSpan) -> bool {
+    let found = crowd::crowded_span(case.day.slots, case.releases, case.deadlines);
+    CrowdAnswer::from(found) == CrowdAnswer { answer, span }
 }
 
 // Whether pricing gives this answer.
-pub(crate) fn priced(case: &[u16], answer: Answer, starts: &[u16]) -> bool {
-    let price = claim::price(
-        case::day(case),
-        case::releases(case),
-        case::deadlines(case),
-        starts,
-    );
-    same_answer(price, answer)
+pub(crate) fn priced(case: Case<'_>, answer: Answer, starts: &[u16]) -> bool {
+    let given = claim::price(case.day, case.releases, case.deadlines, starts);
+    Answer::from(given) == answer
 }
 
 // Whether pricing, ledger and slot records say of a claimed plan what direct counting says.
-pub(crate) fn claimed(case: &[u16], starts: &[u16]) -> bool {
+pub(crate) fn claimed(case: Case<'_>, starts: &[u16]) -> bool {
     let price = direct::judged(case, starts);
-    let answer = where_done(price, code::DONE);
-    let counted = ledger::ledger(
-        case::day(case),
-        case::releases(case),
-        case::deadlines(case),
-        starts,
-    );
-    priced(case, price, starts)
-        && same_answer(counted.answer, answer)
-        && slots(case, starts, answer, counted.counts)
+    priced(case, Answer::from(price), starts)
+        && counted(case, price, starts)
+        && slots(case, price, starts)
 }
 
-// The answer, but with this code and no numbers where it is done.
-fn where_done(answer: Answer, code: u16) -> Answer {
-    if answer.code == code::DONE {
-        return Answer::of(code);
-    }
-    answer
-}
-
-// Whether the records of all slots, and of the one after the day, are what direct counting says under this answer of the ledger, and the counts are
-// those of the slots: taken off by each slot, they leave nothing.
-fn slots(case: &[u16], starts: &[u16], answer: Answer, counts: Counts) -> bool {
-    let claimed = case::part(starts, 0, case::count(case));
-    let mut left = counts;
-    let mut slot = 0;
-    while slot < at_or_zero(case, case::SLOTS) {
-        let fill = direct::fill(case, claimed, answer, slot);
-        if !one_slot(case, starts, slot, answer, fill) {
-            return false;
+// Whether the ledger counts the slots as direct counting fills them.
+fn counted(case: Case<'_>, price: Result<u16, Refusal>, starts: &[u16]) -> bool {
+    let claimed = case.claimed(starts);
+    let mut counts = Counts::default();
+    if price.is_ok() {
+        for slot in 0..case.day.slots {
+            let count = match direct::fill(case, claimed, slot) {
+                Fill::Before => &mut counts.before,
+                Fill::Job(_) => &mut counts.job,
+                Fill::Awake => &mut counts.awake,
+                Fill::Asleep => &mut counts.asleep,
+                Fill::After => &mut counts.after,
+            };
+            *count = count.wrapping_add(1);
         }
-        left = less(left, fill);
-        slot += 1;
     }
-    let after = where_done(answer, code::NO_SUCH_SLOT);
-    one_slot(case, starts, slot, after, direct::NOTHING) && is_nothing(left)
+    let found = ledger::ledger(case.day, case.releases, case.deadlines, starts);
+    let answer = Answer::from(price.map(|_| 0));
+    LedgerAnswer::from(found) == LedgerAnswer { answer, counts }
 }
 
-// The counts without a slot that is filled so.
-fn less(counts: Counts, fill: u16) -> Counts {
-    Counts {
-        before: taken(counts.before, fill == direct::BEFORE),
-        job: taken(counts.job, fill >= direct::JOB),
-        awake: taken(counts.awake, fill == direct::AWAKE),
-        asleep: taken(counts.asleep, fill == direct::ASLEEP),
-        after: taken(counts.after, fill == direct::AFTER),
-    }
-}
-
-fn taken(count: u16, one: bool) -> u16 {
-    if one {
-        return wrapping_sub_u16(count, 1);
-    }
-    count
-}
-
-fn is_nothing(counts: Counts) -> bool {
-    counts.before == 0
-        && counts.job == 0
-        && counts.awake == 0
-        && counts.asleep == 0
-        && counts.after == 0
-}
-
-fn one_slot(case: &[u16], starts: &[u16], slot: u16, answer: Answer, fill: u16) -> bool {
-    let shown = ledger::slot(
-        case::day(case),
-        case::releases(case),
-        case::deadlines(case),
+// Whether the records of all slots, and of the one after the day, are what direct counting says of a plan with this price.
+fn slots(case: Case<'_>, price: Result<u16, Refusal>, starts: &[u16]) -> bool {
+    let claimed = case.claimed(starts);
+    (0..case.day.slots).all(|slot| {
+        let fill = price.map(|_| direct::fill(case, claimed, slot));
+        one_slot(case, starts, slot, fill)
+    }) && one_slot(
+        case,
         starts,
-        slot,
-    );
-    same_answer(shown.answer, answer) && holds(shown.held, slot, fill)
-}
-
-// Whether a record has this slot and what fills it; where nothing is shown, slot 0 and before.
-fn holds(held: SlotFill, slot: u16, fill: u16) -> bool {
-    let filled = number(held);
-    if fill == direct::NOTHING {
-        return held.slot == 0 && filled == direct::BEFORE;
-    }
-    held.slot == slot && filled == fill
-}
-
-// What fills the slot of a record, as a number.
-fn number(held: SlotFill) -> u16 {
-    let fill = held.fill;
-    match fill {
-        Fill::Job(row) => wrapping_add_u16(direct::JOB, row),
-        Fill::Before => direct::BEFORE,
-        Fill::Awake => direct::AWAKE,
-        Fill::Asleep => direct::ASLEEP,
-        Fill::After => direct::AFTER,
-    }
-}
-
-// Whether the choice between two claimed plans is what their prices say.
-pub(crate) fn chosen<'a>(case: &[u16], own: &'a [u16], server: &'a [u16]) -> bool {
-    let day = case::day(case);
-    let releases = case::releases(case);
-    let deadlines = case::deadlines(case);
-    let expected = winner(direct::judged(case, own), direct::judged(case, server));
-    same_answer(
-        choice::which(day, releases, deadlines, own, server),
-        expected,
-    ) && same_numbers(
-        choice::choose(day, releases, deadlines, own, server),
-        winning(expected, own, server, case::count(case)),
+        case.day.slots,
+        price.and(Err(Refusal::NoSuchSlot)),
     )
 }
 
-fn winner(own: Answer, server: Answer) -> Answer {
-    if own.code == code::BAD_ROW {
-        return own;
-    }
-    if own.code != code::DONE && server.code != code::DONE {
-        return Answer::of(code::NEITHER_PROPER);
-    }
-    if own.code == code::DONE && (server.code != code::DONE || own.first <= server.first) {
-        return direct::names(code::DONE, 1, 0);
-    }
-    direct::names(code::DONE, 2, 0)
+// Whether a record says what fills a slot; where nothing is shown, it has slot 0 and before.
+fn one_slot(case: Case<'_>, starts: &[u16], slot: u16, fill: Result<Fill, Refusal>) -> bool {
+    let found = ledger::slot(case.day, case.releases, case.deadlines, starts, slot);
+    let held = fill.map_or(
+        SlotFill {
+            slot: 0,
+            fill: Fill::Before,
+        },
+        |fill| SlotFill { slot, fill },
+    );
+    let answer = Answer::from(fill.map(|_| 0));
+    SlotAnswer::from(found) == SlotAnswer { answer, held }
 }
 
-// The starts of the plan that wins.
-fn winning<'a>(expected: Answer, own: &'a [u16], server: &'a [u16], count: usize) -> &'a [u16] {
-    if expected.code != code::DONE {
-        return case::part(own, 0, 0);
-    }
-    if expected.first == 1 {
-        return case::part(own, 0, count);
-    }
-    case::part(server, 0, count)
+// Whether the choice between two claimed plans is what their prices say.
+pub(crate) fn chosen(case: Case<'_>, own: &[u16], server: &[u16]) -> bool {
+    let expected = winner(direct::judged(case, own), direct::judged(case, server));
+    // Under a refusal no start, as a part of the notebook's own.
+    let starts = match expected {
+        Ok(1) => case.claimed(own),
+        Ok(_) => case.claimed(server),
+        Err(_) => &own[..0],
+    };
+    let given = choice::which(case.day, case.releases, case.deadlines, own, server);
+    let chosen = choice::choose(case.day, case.releases, case.deadlines, own, server);
+    given.map(u16::from) == expected && *chosen == *starts
 }
 
-fn same_answer(a: Answer, b: Answer) -> bool {
-    a.code == b.code && a.first == b.first && a.second == b.second
-}
-
-fn same_numbers(a: &[u16], b: &[u16]) -> bool {
-    if a.len() != b.len() {
-        return false;
+// Which plan wins by the two prices: 1, the notebook's own, or 2, the server's.
+fn winner(own: Result<u16, Refusal>, server: Result<u16, Refusal>) -> Result<u16, Refusal> {
+    match (own, server) {
+        (Err(Refusal::BadRow(_)), _) => own,
+        (Err(_), Err(_)) => Err(Refusal::NeitherProper),
+        (Ok(_), Err(_)) => Ok(1),
+        (Ok(own), Ok(server)) if own <= server => Ok(1),
+        _ => Ok(2),
     }
-    let mut i = 0;
-    while i < a.len() {
-        if at_or_zero(a, i) != at_or_zero(b, i) {
-            return false;
-        }
-        i += 1;
-    }
-    true
 }

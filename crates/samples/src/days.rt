@@ -1,166 +1,179 @@
 // Small days: every list of up to 3 jobs in up to 4 slots, and a fixed pseudo-random set of up to 5 jobs in up to 9 slots.
+use crate::case::Case;
 use crate::tally::Tally;
-use crate::{beside, case, draw, slow, tally};
-use day::{at_or_zero, wide};
-use std::num::{wrapping_add_u16, wrapping_add_u64};
+use crate::{PLACES, beside, draw, slow};
+use checks::Answer;
+use checks::outcome::Refusal;
+use day::{Day, Job, Power, at_or_zero};
 
-// A number below this one is that of a kind (80 of jobs, slots and wake cost) and of a list (4096 at most); the others are of days that are drawn.
-const DRAWN: u64 = 327680;
+// As many lists as there are of 3 jobs in 4 slots.
+const LISTS: u64 = 4096;
 
-const ALL: u64 = 331680;
+// How many days are drawn.
+const DRAWN: u64 = 4000;
 
-// A window, and the number or key that is left for the next.
+// A day with a list of up to 5 rows, in two columns as the library takes them.
 #[derive(Clone, Copy)]
-pub struct Window {
-    pub release: u16,
-    pub deadline: u16,
-    pub left: u64,
+struct Small {
+    day: Day,
+    count: u16,
+    releases: [u16; 5],
+    deadlines: [u16; 5],
+}
+
+impl Small {
+    // A day of so many rows, which are taken one by one.
+    fn made<F: FnMut() -> Job>(day: Day, count: u16, mut next: F) -> Small
+        requires { F.IsAlwaysCallable next }
+    {
+        let mut releases = [0; 5];
+        let mut deadlines = [0; 5];
+        let rows = releases.iter_mut().zip(deadlines.iter_mut());
+        for (release, deadline) in rows.take(usize::from(count)) {
+            let job = next();
+            *release = job.release;
+            *deadline = job.deadline;
+        }
+        Small {
+            day,
+            count,
+            releases,
+            deadlines,
+        }
+    }
+
+    // The list of a number: of each window two digits in base T, which may be an empty window; none where digits are left.
+    fn listed(day: Day, count: u16, number: u64) -> Option<Small> {
+        let mut left = number;
+        let list = Small::made(day, count, || {
+            let release = draw::take_digit(&mut left, day.slots);
+            let more = draw::take_digit(&mut left, day.slots);
+            Job {
+                release,
+                deadline: more.wrapping_add(1),
+            }
+        });
+        (left == 0).then_some(list)
+    }
+
+    // The day of a key, and its windows, which are in the day.
+    fn drawn(key: u64) -> Small {
+        let slots = draw::below(9, key).wrapping_add(1);
+        let wake = draw::below(6, key.wrapping_add(1));
+        let count = draw::below(6, key.wrapping_add(2));
+        let mut key = key.wrapping_add(3);
+        Small::made(day_of(slots, wake), count, || {
+            let release = draw::below(slots, key);
+            let more = draw::below(slots.saturating_sub(release), key.wrapping_add(1));
+            key = key.wrapping_add(2);
+            Job {
+                release,
+                deadline: release.wrapping_add(more).wrapping_add(1),
+            }
+        })
+    }
+
+    fn case(&self) -> Case<'_> {
+        let count = usize::from(self.count).min(5);
+        Case {
+            day: self.day,
+            count,
+            releases: &self.releases[..count],
+            deadlines: &self.deadlines[..count],
+        }
+    }
+}
+
+fn day_of(slots: u16, wake: u16) -> Day {
+    Day {
+        slots,
+        power: Power { wake },
+    }
+}
+
+// What the days came to: the tally, how many lists were refused, and how many had no plan.
+#[derive(Clone, Copy, Default)]
+struct Compared {
+    tally: Tally,
+    refused: u64,
+    without: u64,
 }
 
 pub(crate) fn run(rt: &impl Print, table: &mut [u16]) {
-    let tally = compare_all(table);
-    tally::print(rt, b"days compared ", tally);
-    tally::line(rt, b"refused ", tally.refused);
-    tally::line(rt, b"without a plan ", tally.without);
+    let Compared {
+        tally,
+        refused,
+        without,
+    } = all(table);
+    // A line that is lost shows in what the program wrote.
+    let _ = print!(rt; "days compared {tally}refused {refused}\nwithout a plan {without}\n");
 }
 
-fn compare_all(table: &mut [u16]) -> Tally {
-    let mut tally = tally::none();
-    let mut number = 0;
-    while number < ALL {
-        tally = after_day(tally, number, table);
-        number += 1;
-    }
-    tally
-}
-
-fn after_day(tally: Tally, number: u64, table: &mut [u16]) -> Tally {
-    let mut case = [0u16; 17];
-    if !put_day(number, &mut case) {
-        return tally;
-    }
-    compare(tally, &case, table)
-}
-
-// Puts the day of a number; false where the number is that of no list.
-fn put_day(number: u64, case: &mut [u16; 17]) -> bool {
-    if number < DRAWN {
-        let kind = number / 4096;
-        put_head(
-            draw::digit(kind / 4, 4),
-            wrapping_add_u16(draw::digit(kind, 4), 1),
-            draw::digit(kind / 16, 5),
-            case,
-        );
-        return put_rows(number % 4096, true, case) == 0;
-    }
-    let key = (number - DRAWN) % 4000 * 64;
-    put_head(
-        draw::below(6, key + 2),
-        wrapping_add_u16(draw::below(9, key), 1),
-        draw::below(6, key + 1),
-        case,
-    );
-    put_rows(key + 3, false, case);
-    true
-}
-
-fn put_head(count: u16, slots: u16, wake: u16, case: &mut [u16; 17]) {
-    case[0] = count;
-    case[1] = slots;
-    case[2] = wake;
-    case[3] = 30625;
-}
-
-// Puts the windows of all rows, and gives what is left of the number.
-fn put_rows(number: u64, listed: bool, case: &mut [u16; 17]) -> u64 {
-    let count = wide(case[0]);
-    let slots = case[1];
-    let mut left = number;
-    let mut row = 0;
-    while row < 5 {
-        if row >= count {
-            return left;
+fn all(table: &mut [u16]) -> Compared {
+    let mut compared = Compared::default();
+    for wake in 0..5 {
+        for count in 0..4 {
+            for slots in 1..5 {
+                compared.lists(day_of(slots, wake), count, table);
+            }
         }
-        let window = next_window(left, listed, slots);
-        put(window.release, case::ROWS + row, case);
-        put(window.deadline, case::ROWS + count + row, case);
-        left = window.left;
-        row += 1;
     }
-    left
+    for number in 0..DRAWN {
+        compared.compare(Small::drawn(64 * number).case(), table);
+    }
+    compared
 }
 
-fn put(number: u16, place: usize, case: &mut [u16; 17]) {
-    if place < 17 {
-        case[place] = number;
+impl Compared {
+    // Compares the lists of so many jobs on a day.
+    fn lists(&mut self, day: Day, count: u16, table: &mut [u16]) {
+        for number in 0..LISTS {
+            let Some(list) = Small::listed(day, count, number) else {
+                return;
+            };
+            self.compare(list.case(), table);
+        }
     }
-}
 
-// The window of a row: of a number two digits in base `slots`, which may be an empty window; of a key what is drawn, which is a window in the day.
-fn next_window(number: u64, listed: bool, slots: u16) -> Window {
-    if listed {
-        let more = draw::rest(number, slots);
-        return Window {
-            release: draw::digit(number, slots),
-            deadline: wrapping_add_u16(draw::digit(more, slots), 1),
-            left: draw::rest(more, slots),
-        };
+    // Compares one day: its plan, its crowded span, two claimed plans, and the choice between them.
+    fn compare(&mut self, case: Case<'_>, table: &mut [u16]) {
+        let found = slow::plan(case);
+        let answer = Answer::from(found.outcome);
+        let right = beside::planned(case, PLACES, answer, &found.starts, table)
+            && beside::crowded(case, found.outcome)
+            && same_claims(draw::scrambled(self.tally.run), case, &found.starts);
+        self.tally.count(right);
+        match found.outcome {
+            Err(Refusal::BadRow(_)) => self.refused = self.refused.wrapping_add(1),
+            Err(Refusal::NoPlan) => self.without = self.without.wrapping_add(1),
+            _ => {}
+        }
     }
-    let release = draw::below(slots, number);
-    let more = draw::below(between(release, slots), wrapping_add_u64(number, 1));
-    Window {
-        release,
-        deadline: wrapping_add_u16(release, wrapping_add_u16(more, 1)),
-        left: wrapping_add_u64(number, 2),
-    }
-}
-
-// How many slots lie from one slot to another.
-fn between(from: u16, to: u16) -> u16 {
-    if from < to {
-        return to - from;
-    }
-    0
-}
-
-// Compares one day: its plan, its crowded span, two claimed plans, and the choice between them.
-fn compare(tally: Tally, numbers: &[u16; 17], table: &mut [u16]) -> Tally {
-    let case = case::part(numbers, 0, 17);
-    let found = slow::plan(case);
-    let answer = found.answer;
-    let best = found.starts;
-    let right = beside::planned(case, answer, &best, table)
-        && beside::crowded(case, answer)
-        && same_claims(draw::scrambled(tally.run), case, &best);
-    tally::after(tally, answer.code, right)
 }
 
 // Compares a claim that is drawn, the best plan as a claim, and the choice between the two.
-fn same_claims(key: u64, case: &[u16], best: &[u16]) -> bool {
+fn same_claims(key: u64, case: Case<'_>, best: &[u16]) -> bool {
     let own = claim(key, case);
-    let length = wide(draw::below(20, wrapping_add_u64(key, 1)));
-    let drawn = case::part(&own, 0, length);
+    let length = usize::from(draw::below(20, key.wrapping_add(1)));
+    let drawn = &own[..length.min(5)];
     beside::claimed(case, drawn) && beside::claimed(case, best) && beside::chosen(case, drawn, best)
 }
 
 // Claimed starts.
-fn claim(key: u64, case: &[u16]) -> [u16; 5] {
-    [
-        start(key, case, 0),
-        start(wrapping_add_u64(key, 2), case, 1),
-        start(wrapping_add_u64(key, 4), case, 2),
-        start(wrapping_add_u64(key, 6), case, 3),
-        start(wrapping_add_u64(key, 8), case, 4),
-    ]
+fn claim(key: u64, case: Case<'_>) -> [u16; 5] {
+    let mut starts = [0; 5];
+    for (row, place) in starts.iter_mut().enumerate() {
+        *place = start(key.wrapping_add(2 * row as u64), case, row);
+    }
+    starts
 }
 
 // A start that is drawn for a row, most often in its window.
-fn start(key: u64, case: &[u16], row: usize) -> u16 {
-    if draw::below(8, wrapping_add_u64(key, 1)) == 0 {
-        return draw::below(wrapping_add_u16(at_or_zero(case, case::SLOTS), 2), key);
+fn start(key: u64, case: Case<'_>, row: usize) -> u16 {
+    if draw::below(8, key.wrapping_add(1)) == 0 {
+        return draw::below(case.day.slots.wrapping_add(2), key);
     }
-    let release = at_or_zero(case::releases(case), row);
-    let window = between(release, at_or_zero(case::deadlines(case), row));
-    wrapping_add_u16(release, draw::below(window, key))
+    let release = at_or_zero(case.releases, row);
+    let window = at_or_zero(case.deadlines, row).saturating_sub(release);
+    release.wrapping_add(draw::below(window, key))
 }

@@ -1,226 +1,179 @@
 // Examples of documents 01 and 02 that are not proved of the definitions: limits, refusals, slips, crowded spans, what fills the slots of a
 // plan, and the program's answers to files. They are read from standard input; the file `stdin` has them, and says what stands in a line.
+use crate::case::Case;
 use crate::tally::Tally;
-use crate::{beside, case, direct, tally};
-use checks::code;
-use day::{at_or_zero, lesser, wide};
-use std::num::{wrapping_add_u16, wrapping_add_usize};
+use crate::{beside, direct};
+use checks::{Answer, code};
+use crowd::CrowdedSpan;
+use day::{Day, Power, at_or_zero};
+use ledger::Fill;
 use streams::read;
+
+// What the numbers of a line say, but for a line of a file: the case, the places of the work table, the answer, and the starts or a crowded
+// span.
+#[derive(Clone, Copy)]
+struct Example<'a> {
+    case: Case<'a>,
+    places: usize,
+    answer: Answer,
+    rest: &'a [u16],
+}
+
+impl<'a> Example<'a> {
+    // A number that is missing is 0.
+    fn of(numbers: &'a [u16]) -> Example<'a> {
+        let count = usize::from(at_or_zero(numbers, 0));
+        let rows = &numbers[numbers.len().min(7)..];
+        let (releases, others) = rows.split_at(count.min(rows.len()));
+        let (deadlines, rest) = others.split_at(count.min(others.len()));
+        let day = Day {
+            slots: at_or_zero(numbers, 1),
+            power: Power {
+                wake: at_or_zero(numbers, 2),
+            },
+        };
+        Example {
+            case: Case {
+                day,
+                count,
+                releases,
+                deadlines,
+            },
+            places: usize::from(at_or_zero(numbers, 3)),
+            answer: Answer {
+                code: at_or_zero(numbers, 4),
+                first: at_or_zero(numbers, 5),
+                second: at_or_zero(numbers, 6),
+            },
+            rest,
+        }
+    }
+
+    // The crowded span that stands in place of the starts.
+    fn span(&self) -> CrowdedSpan {
+        CrowdedSpan {
+            begin: at_or_zero(self.rest, 0),
+            end: at_or_zero(self.rest, 1),
+            jobs: at_or_zero(self.rest, 2),
+        }
+    }
+
+    // Whether the library does what a line of this kind says.
+    fn is_right(&self, kind: u8, words: &[u8], table: &mut [u16]) -> bool {
+        let Example {
+            case,
+            places,
+            answer,
+            rest,
+        } = *self;
+        match kind {
+            b'p' => beside::planned(case, places, answer, rest, table),
+            b'w' => beside::shows_span(case, answer, self.span()),
+            b's' => {
+                beside::priced(case, answer, rest)
+                    && beside::claimed(case, rest)
+                    && self.is_drawn(words)
+            }
+            _ => beside::priced(case, answer, rest),
+        }
+    }
+
+    // Whether direct counting says what is drawn, a byte for each slot.
+    fn is_drawn(&self, drawn: &[u8]) -> bool {
+        let slots = self.case.day.slots;
+        drawn.len() == usize::from(slots)
+            && (0..slots).zip(drawn).all(|(slot, byte)| {
+                self.answer.code == code::DONE
+                    && direct::fill(self.case, self.rest, slot) == fill_of(*byte)
+            })
+    }
+}
 
 // Runs every example.
 pub(crate) fn run(rt: &(impl Input + Print), table: &mut [u16]) {
     let mut text = [0u8; 65536];
-    let length = length_of(read::read_whole(&mut rt.reader(), &mut text));
-    let tally = run_lines(part(&text, 0, length), table);
-    tally::print(rt, b"examples ", tally);
+    // A read that fails leaves no example to run.
+    let length = read::read_whole(&mut rt.reader(), &mut text).unwrap_or(0);
+    let tally = run_lines(&text[..length], table);
+    // A line that is lost shows in what the program wrote.
+    let _ = print!(rt; "examples {tally}");
 }
 
-// How many bytes were read; none where reading failed.
-fn length_of(input: read::Input) -> usize {
-    match input {
-        read::Input::Whole(length) => length,
-        read::Input::Failed => 0,
-    }
-}
-
+// A line that is empty or starts with `#` is no example, and neither is what has no line's end.
 fn run_lines(text: &[u8], table: &mut [u16]) -> Tally {
-    let mut tally = tally::none();
-    let mut from = 0;
-    let mut place = 0;
-    while place < text.len() {
-        tally = after_line(tally, line(text, from, place), table);
-        from = line_start(text, from, place);
-        place += 1;
+    let mut tally = Tally::default();
+    for ended in text.split_inclusive(|byte| *byte == b'\n') {
+        if let Some((b'\n', line)) = ended.split_last()
+            && let Some(kind) = line.first()
+            && !matches!(*kind, 0 | b'#')
+        {
+            tally.count(is_right(*kind, line, table));
+        }
     }
     tally
 }
 
-// The line from one place to another; none where no line ends there.
-fn line(text: &[u8], from: usize, place: usize) -> &[u8] {
-    if byte_at(text, place) == b'\n' {
-        return part(text, from, place);
-    }
-    part(text, 0, 0)
-}
-
-// Where the line starts that the byte after a place is of.
-fn line_start(text: &[u8], from: usize, place: usize) -> usize {
-    if byte_at(text, place) == b'\n' {
-        return wrapping_add_usize(place, 1);
-    }
-    from
-}
-
-// The bytes from one place to another; as many of them as there are.
-fn part(bytes: &[u8], from: usize, to: usize) -> &[u8] {
-    let end = lesser(to, bytes.len());
-    let start = lesser(from, end);
-    &bytes[start..end]
-}
-
-// 0 past the end.
-fn byte_at(bytes: &[u8], place: usize) -> u8 {
-    if place < bytes.len() {
-        return bytes[place];
-    }
-    0
-}
-
-// The tally after a line; a line that is empty or starts with `#` is no example.
-fn after_line(tally: Tally, line: &[u8], table: &mut [u16]) -> Tally {
-    let kind = byte_at(line, 0);
-    if kind == 0 || kind == b'#' {
-        return tally;
-    }
-    tally::after(tally, code::DONE, is_right(kind, line, table))
-}
-
+// Whether the library does what a line says: numbers as far as a colon, and words from the second byte after it.
 fn is_right(kind: u8, line: &[u8], table: &mut [u16]) -> bool {
-    let mut list = [0u16; 96];
-    let colon = put_numbers(line, &mut list);
-    let words = part(line, wrapping_add_usize(colon, 2), line.len());
-    agrees(kind, case_of(&list), words, table)
-}
-
-fn agrees(kind: u8, case: &[u16], words: &[u8], table: &mut [u16]) -> bool {
+    let colon = line.iter().position(|byte| *byte == b':');
+    let colon = colon.unwrap_or(line.len()).min(line.len());
+    let words = &line[line.len().min(colon.saturating_add(2))..];
+    let mut list = [0; 96];
+    put_numbers(&line[..colon], &mut list);
+    let numbers = &list[1..];
+    let numbers = &numbers[..numbers.len().min(usize::from(list[0]))];
     if kind == b'f' {
-        return is_printed(case, words, table);
+        return is_printed(numbers, words, table);
     }
-    is_answered(kind, case, table) && (kind != b's' || is_drawn(case, words))
+    Example::of(numbers).is_right(kind, words, table)
 }
 
-fn is_answered(kind: u8, case: &[u16], table: &mut [u16]) -> bool {
-    let answer = case::answer(case);
-    let starts = case::starts(case);
-    if kind == b'p' {
-        return beside::planned(case, answer, starts, table);
-    }
-    if kind == b'w' {
-        return beside::shows_span(case, answer, case::span(case));
-    }
-    beside::priced(case, answer, starts)
-}
-
-// Whether ledger and slot records say what direct counting says, and that is what is drawn, a byte for each slot.
-fn is_drawn(case: &[u16], drawn: &[u8]) -> bool {
-    beside::claimed(case, case::starts(case)) && fills_as(case, drawn)
-}
-
-fn fills_as(case: &[u16], drawn: &[u8]) -> bool {
-    let mut slot = 0;
-    while slot < at_or_zero(case, case::SLOTS) {
-        let fill = direct::fill(case, case::starts(case), case::answer(case), slot);
-        if fill != fill_of(byte_at(drawn, wide(slot))) {
-            return false;
+// Puts the numbers of a line, each of which has a blank before it, after how many there are: a blank counts one more, a digit goes to the last.
+fn put_numbers(line: &[u8], list: &mut [u16; 96]) {
+    for byte in line {
+        let count = usize::from(list[0]);
+        if *byte == b' ' {
+            list[0] = list[0].wrapping_add(1);
+        } else if let Some(last) = list.get_mut(count) {
+            *last = with_digit(*last, *byte);
         }
-        slot += 1;
-    }
-    drawn.len() == wide(slot)
-}
-
-// What a byte stands for; a digit is the row of a job.
-fn fill_of(byte: u8) -> u16 {
-    if byte == b'<' {
-        return direct::BEFORE;
-    }
-    if byte == b'.' {
-        return direct::AWAKE;
-    }
-    if byte == b'z' {
-        return direct::ASLEEP;
-    }
-    if byte == b'>' {
-        return direct::AFTER;
-    }
-    wrapping_add_u16(direct::JOB, with_digit(0, byte))
-}
-
-// The numbers of a line, of which the first place says how many there are.
-fn case_of(list: &[u16; 96]) -> &[u16] {
-    case::part(list, 1, 1 + wide(list[0]))
-}
-
-// Puts the numbers of a line, each of which has a blank before it, and gives the place of the colon; the line's end where there is none.
-fn put_numbers(line: &[u8], list: &mut [u16; 96]) -> usize {
-    let mut place = 0;
-    while place < line.len() {
-        let byte = byte_at(line, place);
-        if byte == b':' {
-            return place;
-        }
-        put_byte(byte, list);
-        place += 1;
-    }
-    place
-}
-
-// A blank counts one number more, at the first place; a digit goes to the last number.
-fn put_byte(byte: u8, list: &mut [u16; 96]) {
-    if byte == b' ' {
-        list[0] = wrapping_add_u16(list[0], 1);
-        return;
-    }
-    let last = wide(list[0]);
-    if last < 96 {
-        list[last] = with_digit(list[last], byte);
     }
 }
 
 // A number with one digit more, if the byte is one.
 fn with_digit(number: u16, byte: u8) -> u16 {
-    if byte < b'0' || byte > b'9' {
-        return number;
+    if byte.is_ascii_digit() {
+        let digit = u16::from(byte.wrapping_sub(b'0'));
+        number.wrapping_mul(10).wrapping_add(digit)
+    } else {
+        number
     }
-    let value = (number as u32) * 10 + ((byte - b'0') as u32);
-    (value % 65536) as u16
 }
 
-// Whether the program prints this text.
+// What a byte stands for; a digit is the row of a job.
+fn fill_of(byte: u8) -> Fill {
+    match byte {
+        b'<' => Fill::Before,
+        b'.' => Fill::Awake,
+        b'z' => Fill::Asleep,
+        b'>' => Fill::After,
+        _ => Fill::Job(with_digit(0, byte)),
+    }
+}
+
+// Whether the program prints this text for a file, of which notes and the bytes after them are given; `/` stands for the end of a line.
 fn is_printed(numbers: &[u16], expected: &[u8], table: &mut [u16]) -> bool {
+    let notes = usize::from(at_or_zero(numbers, 0));
+    let bytes = &numbers[numbers.len().min(1)..];
     let mut file = [0u8; 4200];
-    let length = put_file(numbers, &mut file);
-    let text = report::report(written(&file, length), table);
-    let bytes = text.bytes;
-    shows(part(&bytes, 0, text.len), expected)
-}
-
-fn written(file: &[u8; 4200], length: usize) -> &[u8] {
-    part(file, 0, length)
-}
-
-// Puts a file after its notes, and gives its length.
-fn put_file(numbers: &[u16], file: &mut [u8; 4200]) -> usize {
-    let mut end = wide(at_or_zero(numbers, 0));
-    let mut i = 1;
-    while i < numbers.len() {
-        if end >= 4200 {
-            return end;
-        }
-        file[end] = (numbers[i] % 256) as u8;
-        end += 1;
-        i += 1;
+    for (place, number) in file.iter_mut().skip(notes).zip(bytes) {
+        *place = (*number % 256) as u8;
     }
-    end
-}
-
-// Whether the bytes are those expected, where `/` stands for the end of a line.
-fn shows(bytes: &[u8], expected: &[u8]) -> bool {
-    if bytes.len() != expected.len() {
-        return false;
-    }
-    let mut i = 0;
-    while i < bytes.len() {
-        if byte_at(bytes, i) != printed(byte_at(expected, i)) {
-            return false;
-        }
-        i += 1;
-    }
-    true
-}
-
-fn printed(byte: u8) -> u8 {
-    if byte == b'/' {
-        return b'\n';
-    }
-    byte
+    let length = notes.saturating_add(bytes.len()).min(4200);
+    let text = report::report(&file[..length], table);
+    let printed = &text.bytes[..text.len.min(512)];
+    let expected = expected
+        .iter()
+        .map(|byte| if *byte == b'/' { b'\n' } else { *byte });
+    printed.iter().copied().eq(expected)
 }

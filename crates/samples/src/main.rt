@@ -11,17 +11,11 @@ mod examples;
 mod slow;
 mod tally;
 
-ghost use Rattle.std.specs.Prelude.{◌≡◌, length};
-
-// The work table of the program.
-fn table() -> [u16; 30625]
-    ensures { 30625 ≡ length result }
-{
-    [0; 30625]
-}
+// How many places the work table of the program has.
+const PLACES: usize = 30625;
 
 fn main(rt: HostRuntime) {
-    let mut places = table();
-    examples::run(&rt, &mut places);
-    days::run(&rt, &mut places);
+    let mut table = [0; PLACES];
+    examples::run(&rt, &mut table);
+    days::run(&rt, &mut table);
 }

@@ -1,130 +1,95 @@
 // The slow search: of all start vectors with each job in its window and no two starts the same, the cheapest, and of those the latest by the
 // tie rule.
-use crate::{case, direct, draw};
-use checks::{Answer, code};
-use day::at_or_zero;
-use std::num::{wrapping_add_u16, wrapping_sub_u16};
+use crate::case::Case;
+use crate::{direct, draw};
+use checks::outcome::Refusal;
 
 // A start that nothing has written.
 pub const UNTOUCHED: u16 = 9999;
 
+// More start vectors than there are.
+const MOST: u64 = 100000;
+
 // What the planner has to answer, and the starts that it has to write.
 #[derive(Clone, Copy)]
 pub struct Found {
-    pub answer: Answer,
+    pub outcome: Result<u16, Refusal>,
     pub starts: [u16; 5],
 }
 
-// A start vector, and what is left of its number.
+// A proper plan and its cost.
 #[derive(Clone, Copy)]
-pub struct Vector {
-    pub starts: [u16; 5],
-    pub left: u64,
-}
-
-// The highest-numbered job so far on which two plans differ: its deadline, and whether it starts later in the first.
-#[derive(Clone, Copy)]
-pub struct Difference {
-    pub deadline: u16,
-    pub later: bool,
+struct Priced {
+    cost: u16,
+    starts: [u16; 5],
 }
 
 // Plans a list of at most 5 rows.
-pub(crate) fn plan(case: &[u16]) -> Found {
-    let starts = [UNTOUCHED; 5];
-    let judged = direct::judged(case, case::releases(case));
-    if judged.code == code::BAD_ROW {
-        return Found {
-            answer: judged,
-            starts,
-        };
-    }
-    let answer = Answer::of(code::NO_PLAN);
-    search(case, Found { answer, starts })
-}
-
-// Looks at every start vector, up to more than there are.
-fn search(case: &[u16], none: Found) -> Found {
-    let mut found = none;
-    let mut number = 0;
-    while number < 100000 {
-        let vector = vector_of(case, number);
-        if vector.left > 0 {
-            return found;
+pub(crate) fn plan(case: Case<'_>) -> Found {
+    match search(case) {
+        Ok(best) => {
+            let starts = best.starts;
+            Found {
+                outcome: Ok(best.cost),
+                starts,
+            }
         }
-        let starts = vector.starts;
-        found = weighed(found, case, starts);
-        number += 1;
+        Err(refusal) => Found {
+            outcome: Err(refusal),
+            starts: [UNTOUCHED; 5],
+        },
     }
-    found
 }
 
-// The start vector of a number: its digits, each in the base of a row's window, count from the releases.
-fn vector_of(case: &[u16], number: u64) -> Vector {
+// Looks at every start vector of a list whose rows are good.
+fn search(case: Case<'_>) -> Result<Priced, Refusal> {
+    if let Err(Refusal::BadRow(row)) = direct::judged(case, case.releases) {
+        return Err(Refusal::BadRow(row));
+    }
+    (0..MOST)
+        .map_while(|number| vector_of(case, number))
+        .fold(None, |best, starts| better(case, best, starts))
+        .ok_or(Refusal::NoPlan)
+}
+
+// The start vector of a number: its digits, each in the base of a row's window, count from the releases; none where digits are left.
+fn vector_of(case: Case<'_>, number: u64) -> Option<[u16; 5]> {
     let mut starts = [UNTOUCHED; 5];
     let mut left = number;
-    let mut row = 0;
-    while row < 5 {
-        if row >= case::count(case) {
-            return Vector { starts, left };
-        }
-        let release = at_or_zero(case::releases(case), row);
-        let window = wrapping_sub_u16(at_or_zero(case::deadlines(case), row), release);
-        starts[row] = wrapping_add_u16(release, draw::digit(left, window));
-        left = draw::rest(left, window);
-        row += 1;
+    for (start, (release, deadline)) in starts
+        .iter_mut()
+        .zip(case.releases.iter().zip(case.deadlines))
+    {
+        let window = deadline.wrapping_sub(*release);
+        *start = release.wrapping_add(draw::take_digit(&mut left, window));
     }
-    Vector { starts, left }
+    (left == 0).then_some(starts)
 }
 
-// Takes a start vector for the plan found so far if it is better.
-fn weighed(found: Found, case: &[u16], starts: [u16; 5]) -> Found {
-    let answer = direct::judged(case, &starts);
-    let others = found.starts;
-    if is_better(answer, found.answer, is_later(case, &starts, &others)) {
-        return Found { answer, starts };
+// The better of the best plan so far and a start vector.
+fn better(case: Case<'_>, best: Option<Priced>, starts: [u16; 5]) -> Option<Priced> {
+    let Ok(cost) = direct::judged(case, &starts) else {
+        return best;
+    };
+    let plan = Priced { cost, starts };
+    match best {
+        Some(other) if !is_better(case, &plan, &other) => best,
+        _ => Some(plan),
     }
-    found
 }
 
-// Whether a plan is better than the one found so far, which may be none: it costs less, or as much and is later.
-fn is_better(answer: Answer, found: Answer, later: bool) -> bool {
-    if answer.code != code::DONE {
-        return false;
-    }
-    if found.code != code::DONE || answer.first < found.first {
-        return true;
-    }
-    answer.first == found.first && later
+// Whether a plan is better than another: it costs less, or as much and is later.
+fn is_better(case: Case<'_>, plan: &Priced, other: &Priced) -> bool {
+    plan.cost < other.cost || plan.cost == other.cost && is_later(case, &plan.starts, &other.starts)
 }
 
 // Whether the highest-numbered job on which the two plans differ starts later in the first: of the rows that differ the one with the latest
 // deadline, of equal deadlines the last.
-fn is_later(case: &[u16], starts: &[u16], others: &[u16]) -> bool {
-    let deadlines = case::deadlines(case);
-    let mut last = Difference {
-        deadline: 0,
-        later: false,
-    };
-    let mut row = 0;
-    while row < deadlines.len() {
-        last = after_row(
-            last,
-            at_or_zero(deadlines, row),
-            at_or_zero(starts, row),
-            at_or_zero(others, row),
-        );
-        row += 1;
-    }
-    last.later
-}
-
-fn after_row(last: Difference, deadline: u16, start: u16, other: u16) -> Difference {
-    if start == other || deadline < last.deadline {
-        return last;
-    }
-    Difference {
-        deadline,
-        later: start > other,
-    }
+fn is_later(case: Case<'_>, starts: &[u16; 5], others: &[u16; 5]) -> bool {
+    case.deadlines
+        .iter()
+        .zip(starts.iter().zip(others))
+        .filter(|(_, (start, other))| start != other)
+        .max_by_key(|(deadline, _)| **deadline)
+        .is_some_and(|(_, (start, other))| start > other)
 }

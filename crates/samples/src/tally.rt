@@ -1,60 +1,33 @@
 // What was run and what went wrong, counted and printed.
-use checks::code;
-use std::num::wrapping_add_u64;
+use std::fmt;
 
-// How many cases were run, how many went wrong and the first of those, how many lists were refused, and how many had no plan.
-#[derive(Clone, Copy)]
+// How many cases were run, how many went wrong, and the first of those.
+#[derive(Clone, Copy, Default)]
 pub struct Tally {
     pub run: u64,
-    pub wrong: u64,
-    pub first: u64,
-    pub refused: u64,
-    pub without: u64,
+    wrong: u64,
+    first: Option<u64>,
 }
 
-pub(crate) fn none() -> Tally {
-    Tally {
-        run: 0,
-        wrong: 0,
-        first: 0,
-        refused: 0,
-        without: 0,
+impl Tally {
+    // Counts one more case.
+    pub(crate) fn count(&mut self, right: bool) {
+        self.run = self.run.wrapping_add(1);
+        if !right {
+            self.wrong = self.wrong.wrapping_add(1);
+            self.first = self.first.or(Some(self.run));
+        }
     }
 }
 
-// The tally after one more case, whose answer has this code.
-pub(crate) fn after(tally: Tally, code: u16, right: bool) -> Tally {
-    let run = counted(tally.run, true);
-    let mut first = tally.first;
-    if !right && tally.wrong == 0 {
-        first = run;
+impl fmt::Display for Tally {
+    fn fmt<W: fmt::Write>(&self, f: &mut fmt::Formatter<W>) -> fmt::Result {
+        let Tally { run, wrong, first } = *self;
+        writeln!(f, "{run}")?;
+        writeln!(f, "wrong {wrong}")?;
+        match first {
+            Some(first) => writeln!(f, "first wrong {first}"),
+            None => Ok(()),
+        }
     }
-    Tally {
-        run,
-        wrong: counted(tally.wrong, !right),
-        first,
-        refused: counted(tally.refused, code == code::BAD_ROW),
-        without: counted(tally.without, code == code::NO_PLAN),
-    }
-}
-
-fn counted(count: u64, more: bool) -> u64 {
-    if more {
-        return wrapping_add_u64(count, 1);
-    }
-    count
-}
-
-pub(crate) fn print(rt: &impl Print, word: &[u8], tally: Tally) {
-    line(rt, word, tally.run);
-    line(rt, b"wrong ", tally.wrong);
-    if tally.wrong > 0 {
-        line(rt, b"first wrong ", tally.first);
-    }
-}
-
-// A word, a number, and the line's end. A line that is lost shows in what the program wrote.
-pub(crate) fn line(rt: &impl Print, word: &[u8], number: u64) {
-    let _ = rt.write_all(word);
-    let _ = rt.println(number);
 }

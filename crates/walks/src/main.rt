@@ -9,9 +9,12 @@ mod story;
 mod tally;
 mod twin;
 
+use tally::Tally;
+
 fn main(rt: HostRuntime) {
-    let mut tally = [0u64; 4];
+    let mut tally = Tally::default();
     story::run(&rt, &mut tally);
     histories::run(&mut tally);
-    tally::print(&rt, &tally);
+    // A line that is lost shows in what the program wrote.
+    let _ = print!(rt; "{tally}");
 }

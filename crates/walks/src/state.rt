@@ -1,77 +1,101 @@
-// A state is a list of numbers: an answer, the day that is held after it, and a log.
-use day::{at_or_zero, lesser, wide};
-use std::num::wrapping_add_usize;
+// A state of a day in the field, as the twin knows it.
+ghost use Rattle.std.specs.Prelude.{◌≤◌};
 
-// How long a state is.
-pub const LENGTH: usize = 223;
+use checks::outcome::Refusal;
+use day::{Day, Power};
+use fieldday::FieldDay;
 
-pub const CODE: usize = 0;
+// A place more than a day takes, so that a row too many has one.
+pub type Column = [u16; 41];
 
-pub const FIRST: usize = 1;
-
-pub const SECOND: usize = 2;
-
-pub const SLOTS: usize = 3;
-
-pub const WAKE: usize = 4;
-
-pub const SLOT: usize = 5;
-
-pub const COUNT: usize = 6;
-
-// Where each column of 40 rows begins.
-pub const RELEASES: usize = 7;
-
-pub const DEADLINES: usize = 47;
-
-pub const STARTS: usize = 87;
-
-// Where the log begins: for each slot the row that was done in it, counted from 1, or 0.
-pub const LOG: usize = 127;
-
-// The numbers of a list from one place to another, as many of them as there are.
-pub(crate) fn part(list: &[u16], from: usize, to: usize) -> &[u16] {
-    let end = lesser(to, list.len());
-    let start = lesser(from, end);
-    &list[start..end]
+// What the call before came to, the day that is held after it, and a log: the row that was done in each slot, counted from 1.
+#[derive(Clone, Copy)]
+pub struct State {
+    pub outcome: Result<u16, Refusal>,
+    pub day: Day,
+    pub slot: u16,
+    pub count: u16,
+    pub releases: Column,
+    pub deadlines: Column,
+    pub starts: Column,
+    pub log: [Option<u16>; 96],
 }
 
-// The rows of a column.
-pub(crate) fn rows(state: &[u16], from: usize) -> &[u16] {
-    let count = wide(at_or_zero(state, COUNT));
-    part(state, from, wrapping_add_usize(from, count))
-}
-
-// The first place of a short list, from a place on, that has a number, counted from 1; 0 where none has.
-pub(crate) fn place_of(list: &[u16], from: usize, number: u16) -> u16 {
-    let mut place = from;
-    while place < 96 {
-        if at_or_zero(list, place) == number && place < list.len() {
-            return (place + 1) as u16;
+impl State {
+    // A day that opens with these rows and starts; beyond the rows stands what a wake costs.
+    pub(crate) fn listed(day: Day, releases: &[u16], deadlines: &[u16], starts: &[u16]) -> State {
+        let wake = day.power.wake;
+        State {
+            outcome: Ok(0),
+            day,
+            slot: 0,
+            count: releases.len().min(41) as u16,
+            releases: filled(releases, wake),
+            deadlines: filled(deadlines, wake),
+            starts: filled(starts, wake),
+            log: [None; 96],
         }
-        place += 1;
     }
-    0
-}
 
-pub(crate) fn put(state: [u16; 223], place: usize, number: u16) -> [u16; 223] {
-    let mut next = state;
-    if place < LENGTH {
-        next[place] = number;
+    // The day of zeros.
+    pub(crate) fn none() -> State {
+        let power = Power { wake: 0 };
+        State::listed(Day { slots: 0, power }, &[], &[], &[])
     }
-    next
-}
 
-// Puts a list from a place on.
-pub(crate) fn put_all(state: [u16; 223], from: usize, list: &[u16]) -> [u16; 223] {
-    let mut next = state;
-    let mut i = 0;
-    while i < list.len() {
-        let place = wrapping_add_usize(from, i);
-        if place < LENGTH {
-            next[place] = at_or_zero(list, i);
+    // The releases of the rows.
+    pub(crate) fn releases(&self) -> &[u16] {
+        &self.releases[..self.rows()]
+    }
+
+    // The deadlines of the rows.
+    pub(crate) fn deadlines(&self) -> &[u16] {
+        &self.deadlines[..self.rows()]
+    }
+
+    // The starts of the rows.
+    pub(crate) fn starts(&self) -> &[u16] {
+        &self.starts[..self.rows()]
+    }
+
+    // The row that was done in the slot before, counted from 1.
+    pub(crate) fn done_last(&self) -> Option<u16> {
+        let slot = usize::from(self.slot).checked_sub(1)?;
+        *self.log.get(slot)?
+    }
+
+    // How many rows there are, as many as have a place.
+    fn rows(&self) -> usize
+        ensures { result ≤ 41 }
+    {
+        usize::from(self.count).min(41)
+    }
+
+    // The day as the library holds it.
+    pub(crate) fn field(&self) -> FieldDay {
+        FieldDay {
+            day: self.day,
+            slot: self.slot,
+            count: self.count,
+            releases: forty(&self.releases),
+            deadlines: forty(&self.deadlines),
+            starts: forty(&self.starts),
         }
-        i += 1;
     }
-    next
+}
+
+// A column that begins with these numbers, and has another in the places that are left.
+fn filled(numbers: &[u16], other: u16) -> Column {
+    let mut column = [other; 41];
+    for (place, number) in column.iter_mut().zip(numbers) {
+        *place = *number;
+    }
+    column
+}
+
+// The places that a day has.
+fn forty(column: &Column) -> [u16; 40] {
+    let mut rows = [0; 40];
+    rows.copy_from_slice(&column[..40]);
+    rows
 }

@@ -1,90 +1,135 @@
 // A field day as a story, printed: what the base offers, what comes in, and what is done, slot by slot.
-use crate::{beside, histories, state, tally, twin};
-use checks::code;
-use day::{at_or_zero, wide};
+use crate::state::State;
+use crate::tally::Tally;
+use crate::twin::Call;
+use checks::Answer;
+use day::{Day, Job, Power};
+use std::fmt;
 
-// The calls, each its kind, how many numbers it takes, and those: the day opens; two slots; what is done stays, a plan as dear is not taken, a cheaper
-// one is; a window has passed, one leaves the day, one is taken; three slots; an offer made for the list before, a late job, an offer that is too
-// short, one with two jobs in a slot; seven slots; the day is over.
-const CALLS: [u16; 85] = [
-    3, 3, 1, 4, 10, 0, 0, 0, 0, 2, 3, 0, 7, 9, 2, 3, 1, 4, 9, 2, 3, 1, 7, 9, 1, 2, 0, 2, 1, 2, 10,
-    13, 1, 2, 3, 6, 0, 0, 0, 0, 0, 0, 2, 4, 1, 7, 9, 5, 1, 2, 4, 10, 2, 4, 1, 2, 10, 3, 2, 5, 1, 2,
-    9, 3, 9, 0, 0, 0, 0, 0, 0, 0, 0, 0, 0, 0, 0, 0, 0, 1, 2, 11, 12, 0, 0,
+// The calls: the day opens; two slots; what is done stays, a plan as dear is not taken, a cheaper one is; a window has passed, one leaves the day,
+// one is taken; three slots; an offer made for the list before, a late job, an offer that is too short, one with two jobs in a slot; seven slots;
+// the day is over.
+const CALLS: [Call<'static>; 25] = [
+    Call::Open(&[1, 4, 10]),
+    Call::Advance,
+    Call::Advance,
+    Call::Offer(&[0, 7, 9]),
+    Call::Offer(&[1, 4, 9]),
+    Call::Offer(&[1, 7, 9]),
+    Call::Add(Job {
+        release: 0,
+        deadline: 2,
+    }),
+    Call::Add(Job {
+        release: 10,
+        deadline: 13,
+    }),
+    Call::Add(Job {
+        release: 3,
+        deadline: 6,
+    }),
+    Call::Advance,
+    Call::Advance,
+    Call::Advance,
+    Call::Offer(&[1, 7, 9, 5]),
+    Call::Add(Job {
+        release: 4,
+        deadline: 10,
+    }),
+    Call::Offer(&[1, 2, 10, 3]),
+    Call::Offer(&[1, 2, 9, 3, 9]),
+    Call::Advance,
+    Call::Advance,
+    Call::Advance,
+    Call::Advance,
+    Call::Advance,
+    Call::Advance,
+    Call::Advance,
+    Call::Add(Job {
+        release: 11,
+        deadline: 12,
+    }),
+    Call::Advance,
 ];
 
-pub(crate) fn run(rt: &impl Print, tally: &mut [u64; 4]) {
-    let calls = CALLS;
-    let mut state = histories::listed([12, 3, 0, 3], &[0, 2, 9, 2, 8, 12, 1, 4, 10]);
-    let mut place = 0;
-    while place < 85 {
-        let from = place + 2;
-        let to = from + wide(at_or_zero(&calls, place + 1));
-        let kind = at_or_zero(&calls, place);
-        let next = told(rt, state, kind, state::part(&calls, from, to), tally);
+pub(crate) fn run(rt: &impl Print, tally: &mut Tally) {
+    let day = Day {
+        slots: 12,
+        power: Power { wake: 3 },
+    };
+    let mut state = State::listed(day, &[0, 2, 9], &[2, 8, 12], &[1, 4, 10]);
+    for call in CALLS {
+        let slot = state.slot;
+        let next = state.after(call, tally);
+        let told = Told { call, next };
+        // A line that is lost shows in what the program wrote.
+        let _ = println!(rt; "slot {slot}{call}{told}");
         state = next;
-        place = to;
     }
 }
 
-// Makes a call, and says in which slot, what it was and what came of it.
-fn told(
-    rt: &impl Print,
-    state: [u16; 223],
-    kind: u16,
-    numbers: &[u16],
-    tally: &mut [u64; 4],
-) -> [u16; 223] {
-    let slot = state[state::SLOT];
-    let next = beside::after(state, kind, numbers, tally);
-    tally::say(rt, b"slot ", slot as u64);
-    say_call(rt, kind, numbers);
-    say_outcome(rt, kind, slot, &next);
-    tally::say_word(rt, b"\n");
-    next
-}
-
-fn say_call(rt: &impl Print, kind: u16, numbers: &[u16]) {
-    if kind == twin::ADD {
-        return say_numbers(rt, b": a job comes in,", numbers);
-    }
-    if kind == twin::OFFER {
-        return say_numbers(rt, b": the base offers", numbers);
-    }
-    if kind == twin::OPEN {
-        say_numbers(
-            rt,
-            b": a day of 12 slots, 3 to wake, opens with jobs 0 2, 2 8, 9 12 and the plan",
-            numbers,
-        )
+impl fmt::Display for Call<'_> {
+    fn fmt<W: fmt::Write>(&self, f: &mut fmt::Formatter<W>) -> fmt::Result {
+        match *self {
+            Call::Open(starts) => {
+                let starts = Spaced(starts);
+                write!(
+                    f,
+                    ": a day of 12 slots, 3 to wake, opens with jobs 0 2, 2 8, 9 12 and the plan{starts}"
+                )
+            }
+            Call::Advance => Ok(()),
+            Call::Add(Job { release, deadline }) => {
+                write!(f, ": a job comes in, {release} {deadline}")
+            }
+            Call::Offer(starts) => {
+                let starts = Spaced(starts);
+                write!(f, ": the base offers{starts}")
+            }
+        }
     }
 }
 
-fn say_outcome(rt: &impl Print, kind: u16, slot: u16, next: &[u16]) {
-    if at_or_zero(next, state::CODE) != code::DONE {
-        return say_numbers(rt, b": refused,", state::part(next, 0, 3));
-    }
-    if kind == twin::ADVANCE {
-        return say_done(rt, at_or_zero(next, state::LOG + wide(slot)));
-    }
-    if kind == twin::OFFER && at_or_zero(next, state::FIRST) == 0 {
-        return say_numbers(rt, b": not taken", state::part(next, 0, 0));
-    }
-    say_numbers(rt, b": the plan is", state::rows(next, state::STARTS))
+// What came of a call: the state after it.
+#[derive(Clone, Copy)]
+struct Told<'a> {
+    call: Call<'a>,
+    next: State,
 }
 
-fn say_done(rt: &impl Print, row: u16) {
-    if row > 0 {
-        tally::say(rt, b": done is job ", row as u64);
-    } else {
-        tally::say_word(rt, b": no job");
+impl fmt::Display for Told<'_> {
+    fn fmt<W: fmt::Write>(&self, f: &mut fmt::Formatter<W>) -> fmt::Result {
+        match (self.call, self.next.outcome) {
+            (_, Err(refusal)) => {
+                let Answer {
+                    code,
+                    first,
+                    second,
+                } = Answer::from(refusal);
+                write!(f, ": refused, {code} {first} {second}")
+            }
+            (Call::Advance, Ok(_)) => match self.next.done_last() {
+                Some(row) => write!(f, ": done is job {row}"),
+                None => write!(f, ": no job"),
+            },
+            (Call::Offer(_), Ok(0)) => write!(f, ": not taken"),
+            (_, Ok(_)) => {
+                let starts = Spaced(self.next.starts());
+                write!(f, ": the plan is{starts}")
+            }
+        }
     }
 }
 
-fn say_numbers(rt: &impl Print, word: &[u8], numbers: &[u16]) {
-    tally::say_word(rt, word);
-    let mut place = 0;
-    while place < numbers.len() {
-        tally::say(rt, b" ", at_or_zero(numbers, place) as u64);
-        place += 1;
+// Numbers, a blank before each.
+#[derive(Clone, Copy)]
+struct Spaced<'a>(&'a [u16]);
+
+impl fmt::Display for Spaced<'_> {
+    fn fmt<W: fmt::Write>(&self, f: &mut fmt::Formatter<W>) -> fmt::Result {
+        for number in self.0 {
+            write!(f, " {number}")?;
+        }
+        Ok(())
     }
 }

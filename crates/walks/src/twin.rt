@@ -1,170 +1,162 @@
 // The slow twin of a field day, which knows what is done from its log alone.
-use crate::{search, state};
-use checks::{Answer, code};
-use day::{Day, Power, at_or_zero, wide};
-use std::num::wrapping_add_u16;
+use crate::state::State;
+use checks::outcome::Refusal;
+use day::{Day, Job};
 
-// The calls.
-pub const ADVANCE: u16 = 0;
+// A call: a day opens with the starts that are given, goes on by a slot, has a job more, or is offered starts.
+#[derive(Clone, Copy)]
+pub enum Call<'a> {
+    Open(&'a [u16]),
+    Advance,
+    Add(Job),
+    Offer(&'a [u16]),
+}
 
-pub const ADD: u16 = 1;
+impl State {
+    // The state after a call. A call that is refused leaves the day as it was, and none where it is to open.
+    pub(crate) fn told(&self, call: Call<'_>) -> State {
+        let next = match call {
+            Call::Open(starts) => self.opened(starts),
+            Call::Advance => self.advanced(),
+            Call::Add(job) => self.added(job),
+            Call::Offer(starts) => self.offered(starts),
+        };
+        next.unwrap_or_else(|refusal| {
+            let left = match call {
+                Call::Open(_) => State::none(),
+                _ => *self,
+            };
+            State {
+                outcome: Err(refusal),
+                ..left
+            }
+        })
+    }
 
-pub const OFFER: u16 = 2;
+    // What pricing answers for starts.
+    fn priced(&self, starts: &[u16]) -> Result<u16, Refusal> {
+        claim::price(self.day, self.releases(), self.deadlines(), starts)
+    }
 
-pub const OPEN: u16 = 3;
-
-// The state after a call with these numbers: a window, or starts; a day opens with the starts that it has.
-pub(crate) fn told(state: [u16; 223], kind: u16, numbers: &[u16], places: usize) -> [u16; 223] {
-    if kind == OPEN {
-        let answer = priced(&state, numbers);
-        if answer.code != code::DONE {
-            return answered([0; 223], answer.code, answer.first, answer.second);
+    // Judges list and plan, then the slot.
+    fn judged(&self) -> Result<u16, Refusal> {
+        let cost = self.priced(self.starts())?;
+        if self.slot > self.day.slots {
+            return Err(Refusal::DayOver);
         }
-        return answered(state, 0, answer.first, 0);
+        Ok(cost)
     }
-    let judged = judged(&state);
-    if judged.code != code::DONE {
-        return answered(state, judged.code, judged.first, judged.second);
-    }
-    if kind == ADVANCE {
-        return advanced(state);
-    }
-    if kind == ADD {
-        return added(state, numbers, places);
-    }
-    offered(state, numbers, judged.first)
-}
 
-pub(crate) fn day(state: &[u16]) -> Day {
-    let power = Power {
-        wake: at_or_zero(state, state::WAKE),
-    };
-    Day {
-        slots: at_or_zero(state, state::SLOTS),
-        power,
+    fn opened(&self, starts: &[u16]) -> Result<State, Refusal> {
+        let cost = self.priced(starts)?;
+        Ok(State {
+            outcome: Ok(cost),
+            ..*self
+        })
     }
-}
 
-// What pricing answers for starts.
-fn priced(state: &[u16], starts: &[u16]) -> Answer {
-    claim::price(
-        day(state),
-        state::rows(state, state::RELEASES),
-        state::rows(state, state::DEADLINES),
-        starts,
-    )
-}
-
-// Judges list and plan, then the slot.
-fn judged(state: &[u16]) -> Answer {
-    let answer = priced(state, state::rows(state, state::STARTS));
-    if answer.code == code::DONE
-        && at_or_zero(state, state::SLOT) > at_or_zero(state, state::SLOTS)
-    {
-        return Answer::of(code::DAY_OVER);
+    // A slot later: the job that starts in the slot is in the log.
+    fn advanced(&self) -> Result<State, Refusal> {
+        self.judged()?;
+        if self.slot >= self.day.slots {
+            return Err(Refusal::DayOver);
+        }
+        let row = (1..=self.count)
+            .zip(self.starts())
+            .find_map(|(row, start)| (*start == self.slot).then_some(row));
+        let mut next = *self;
+        if let Some(done) = next.log.get_mut(usize::from(self.slot)) {
+            *done = row;
+        }
+        next.outcome = Ok(0);
+        next.slot = self.slot + 1;
+        Ok(next)
     }
-    answer
-}
 
-fn answered(state: [u16; 223], code: u16, first: u16, second: u16) -> [u16; 223] {
-    let mut next = state;
-    next[state::CODE] = code;
-    next[state::FIRST] = first;
-    next[state::SECOND] = second;
-    next
-}
+    // A row more, and the best plan for what is left with it.
+    fn added(&self, job: Job) -> Result<State, Refusal> {
+        self.judged()?;
+        let longer = self.with_row(job);
+        // Starts at the releases are within the windows but may clash, so that only a refusal of the list counts.
+        if let Err(refusal) = longer.priced(longer.releases())
+            && matches!(refusal, Refusal::TooManyJobs | Refusal::BadRow(_))
+        {
+            return Err(refusal);
+        }
+        if self.places(job) < self.needed() {
+            return Err(Refusal::ShortTable);
+        }
+        let plan = longer.best().ok_or(Refusal::NoPlan)?;
+        Ok(longer.with_plan(plan.cost, &plan.starts))
+    }
 
-// A slot later: the job that starts in the slot is in the log.
-fn advanced(state: [u16; 223]) -> [u16; 223] {
-    let slot = state[state::SLOT];
-    if slot == state[state::SLOTS] {
-        return answered(state, code::DAY_OVER, 0, 0);
+    // A new row last, as yet without a start.
+    fn with_row(&self, job: Job) -> State {
+        let mut longer = *self;
+        let row = usize::from(self.count);
+        if row < 41 {
+            longer.releases[row] = job.release;
+            longer.deadlines[row] = job.deadline;
+            longer.count = self.count + 1;
+        }
+        longer
     }
-    let row = state::place_of(state::rows(&state, state::STARTS), 0, slot);
-    let mut next = state::put(state, state::LOG + wide(slot), row);
-    next[state::SLOT] = wrapping_add_u16(slot, 1);
-    answered(next, 0, 0, 0)
-}
 
-fn added(state: [u16; 223], window: &[u16], places: usize) -> [u16; 223] {
-    let longer = with_row(state, at_or_zero(window, 0), at_or_zero(window, 1));
-    let answer = priced(&longer, state::rows(&longer, state::RELEASES));
-    if answer.code == code::TOO_MANY_JOBS || answer.code == code::BAD_ROW {
-        return answered(state, answer.code, answer.first, 0);
+    // How many places of the table a row more needs.
+    pub(crate) fn needed(&self) -> usize {
+        let Day { slots, .. } = self.day;
+        let count = self.count;
+        let width = usize::from(slots) + 3;
+        (usize::from(count) + 2) * width * width
     }
-    if places < needed(&state) {
-        return answered(state, code::SHORT_TABLE, 0, 0);
-    }
-    let best = search::best(&longer);
-    let cost = best[search::COST];
-    if cost == search::NONE {
-        return answered(state, code::NO_PLAN, 0, 0);
-    }
-    answered(with_plan(longer, &best), 0, cost, 0)
-}
 
-// A new row last, as yet without a start.
-fn with_row(state: [u16; 223], release: u16, deadline: u16) -> [u16; 223] {
-    let count = state[state::COUNT];
-    let released = state::put(state, state::RELEASES + wide(count), release);
-    let mut next = state::put(released, state::DEADLINES + wide(count), deadline);
-    next[state::COUNT] = wrapping_add_u16(count, 1);
-    next
-}
-
-// How many places of the table a row more needs.
-pub(crate) fn needed(state: &[u16]) -> usize {
-    let width = wide(at_or_zero(state, state::SLOTS)) + 3;
-    (wide(at_or_zero(state, state::COUNT)) + 2) * width * width
-}
-
-fn with_plan(state: [u16; 223], starts: &[u16]) -> [u16; 223] {
-    let count = wide(state[state::COUNT]);
-    state::put_all(state, state::STARTS, state::part(starts, 0, count))
-}
-
-// Takes an offer that is proper for what is left and costs less than this.
-fn offered(state: [u16; 223], starts: &[u16], cost: u16) -> [u16; 223] {
-    let answer = left(&state, starts);
-    if answer.code != code::DONE {
-        return answered(state, answer.code, answer.first, answer.second);
-    }
-    if answer.first < cost {
-        return answered(with_plan(state, starts), 0, 1, 0);
-    }
-    answered(state, 0, 0, 0)
-}
-
-// What pricing answers for what is left: 14 is also for a row that isn't where the log leaves it.
-pub(crate) fn left(state: &[u16], starts: &[u16]) -> Answer {
-    let answer = priced(state, starts);
-    let row = search::first_undone(state, starts);
-    if row == 0 || answer.code == code::FEW_STARTS {
-        return answer;
-    }
-    if answer.code == code::OUTSIDE_WINDOW && answer.first < row {
-        return answer;
-    }
-    Answer {
-        code: code::OUTSIDE_WINDOW,
-        first: row,
-        second: 0,
-    }
-}
-
-// Whether the log has each row at most once, and exactly once where a call that is not refused gives back a day that has ended.
-pub(crate) fn is_done_once(state: &[u16]) -> bool {
-    let count = at_or_zero(state, state::COUNT);
-    let log = state::part(state, state::LOG, state::LENGTH);
-    let open = at_or_zero(state, state::CODE) > 0
-        || at_or_zero(state, state::SLOT) != at_or_zero(state, state::SLOTS);
-    let mut row = 0;
-    while row < count {
-        row += 1;
-        let place = state::place_of(log, 0, row);
-        if (place == 0 && !open) || state::place_of(log, wide(place), row) > 0 {
-            return false;
+    // How many places the table is lent with: one too few for a job that is released at 1, else one too many.
+    pub(crate) fn places(&self, job: Job) -> usize {
+        if job.release == 1 {
+            self.needed().wrapping_sub(1)
+        } else {
+            self.needed().wrapping_add(1)
         }
     }
-    true
+
+    fn with_plan(&self, first: u16, starts: &[u16]) -> State {
+        let rows = starts.iter().take(usize::from(self.count));
+        let mut next = *self;
+        next.outcome = Ok(first);
+        for (place, start) in next.starts.iter_mut().zip(rows) {
+            *place = *start;
+        }
+        next
+    }
+
+    // Takes an offer that is proper for what is left and costs less than this.
+    fn offered(&self, starts: &[u16]) -> Result<State, Refusal> {
+        let cost = self.judged()?;
+        if self.left(starts)? < cost {
+            return Ok(self.with_plan(1, starts));
+        }
+        Ok(State {
+            outcome: Ok(0),
+            ..*self
+        })
+    }
+
+    // What pricing answers for what is left: a row is outside its window also where it isn't where the log leaves it.
+    pub(crate) fn left(&self, starts: &[u16]) -> Result<u16, Refusal> {
+        let priced = self.priced(starts);
+        match (priced, self.first_undone(starts)) {
+            (_, None) | (Err(Refusal::FewStarts), _) => priced,
+            (Err(Refusal::OutsideWindow(first)), Some(row)) if first < row => priced,
+            (_, Some(row)) => Err(Refusal::OutsideWindow(row)),
+        }
+    }
+
+    // Whether the log has each row at most once, and exactly once where a call that is not refused gives back a day that has ended.
+    pub(crate) fn is_done_once(&self) -> bool {
+        let open = self.outcome.is_err() || self.slot != self.day.slots;
+        (1..=self.count).all(|row| {
+            let times = self.log.iter().filter(|done| **done == Some(row)).count();
+            times == 1 || times == 0 && open
+        })
+    }
 }
