@@ -24,7 +24,7 @@ use Rattle.demands.proofs.ExamplesOfClaims.{priced_examples_hold, chosen_example
 use Rattle.demands.proofs.ExamplesOfLedger.{ledger_examples_hold, slot_examples_hold}
 use Rattle.demands.proofs.ExamplesOfMoving.{moved_examples_hold}
 use Rattle.demands.proofs.ExamplesOfFiles.{read_examples_hold, written_examples_hold, reported_examples_hold, printed_examples_hold}
-use Rattle.demands.proofs.OneOutcome.{one_outcome}
+use Rattle.demands.proofs.OneOutcome.{one_outcome, one_result}
 use Rattle.demands.proofs.Impostors.{no_impostor}
 
 pub demands : Demands
@@ -81,5 +81,6 @@ demands =
       reported_examples = reported_examples_hold;
       printed_examples = printed_examples_hold;
       one_outcome = one_outcome;
+      one_result = one_result;
       no_impostor = no_impostor;
     }

@@ -38,7 +38,7 @@ use Rattle.dayfile.specs.Format.{
 use Rattle.dayfile.specs.Reader.{no_reading, FilledFrom, FileCheck, RowsRead, NothingRead, ReadPromise}
 use Rattle.filewriter.specs.Writer.{file_length, RoomCheck}
 use Rattle.ledger.specs.Promise.{no_counts, Ledgered}
-use Rattle.report.specs.declared.Outcome.{Outcome}
+use Rattle.report.specs.Outcome.{Outcome}
 use Rattle.text.specs.declared.Text.{Text}
 use Rattle.text.specs.Decimal.{digits, decimal}
 use Rattle.text.specs.Lines.{spaced, plan_line, row_line, row_lines, slots_line, lines, Prints}

@@ -28,7 +28,7 @@ use Rattle.demands.specs.ExamplesOfClaims.{PricedExamplesHold, ChosenExamplesHol
 use Rattle.demands.specs.ExamplesOfLedger.{LedgerExamplesHold, SlotExamplesHold}
 use Rattle.demands.specs.ExamplesOfMoving.{MovedExamplesHold}
 use Rattle.demands.specs.ExamplesOfFiles.{ReadExamplesHold, WrittenExamplesHold, ReportedExamplesHold, PrintedExamplesHold}
-use Rattle.demands.specs.OneOutcome.{OneOutcome}
+use Rattle.demands.specs.OneOutcome.{OneOutcome, OneResult}
 use Rattle.demands.specs.Impostors.{NoImpostor}
 
 pub record Demands : Type 0 where
@@ -93,5 +93,6 @@ pub record Demands : Type 0 where
   pub printed_examples : PrintedExamplesHold
   -- two outcomes are equal
   pub one_outcome : OneOutcome
+  pub one_result : OneResult
   -- programs that the promises rule out
   pub no_impostor : NoImpostor

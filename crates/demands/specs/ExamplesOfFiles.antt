@@ -7,7 +7,7 @@ use Rattle.day.specs.declared.Day.{Day}
 use Rattle.dayfile.specs.declared.reader.Reading.{Reading}
 use Rattle.dayfile.specs.Reader.{ReadPromise}
 use Rattle.filewriter.specs.Writer.{WritePromise}
-use Rattle.report.specs.declared.Outcome.{Outcome}
+use Rattle.report.specs.Outcome.{Outcome}
 use Rattle.text.specs.declared.Text.{Text}
 use Rattle.report.specs.File.{FilePromise, ReportPromise}
 use Rattle.demands.specs.ExamplesTable.{answer_of, ◌gives◌, Table, day_with, releases_of, deadlines_of, P8}

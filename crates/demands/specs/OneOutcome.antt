@@ -1,6 +1,9 @@
 -- Two outcomes that satisfy a promise are equal. A field for each function that another crate or C can call, save where the promise is an
--- equation for all that comes out. An outcome is what comes back and what the lent lists hold afterwards.
-use Rattle.std.specs.Prelude.{ℕ, ◌≡◌, List, ℤ}
+-- equation for all that comes out. An outcome is what comes back and what the lent lists hold afterwards. Where a function gives a value or a
+-- refusal, its promise speaks of the record that says it; OneResult says that the record says one such outcome.
+use Rattle.std.specs.Prelude.{ℕ, ◌≡◌, List, ℤ, Result}
+use Rattle.checks.specs.declared.outcome.Refusal.{Refusal}
+use Rattle.checks.specs.Answer.{answered_by, answered, checked}
 use Rattle.std.specs.Borrow.{Bor}
 use Rattle.checks.specs.declared.Answer.{Answer}
 use Rattle.day.specs.declared.Power.{Power}
@@ -12,21 +15,22 @@ use Rattle.checks.specs.Check.{SlotsCheck, PowerCheck, JobsCheck, TimesCheck, Li
 use Rattle.day.specs.Numbering.{Numbering}
 use Rattle.planner.specs.Promise.{PlanPromise}
 use Rattle.claim.specs.Claim.{PricePromise}
-use Rattle.claim.specs.Rows.{NextJob, Judged}
-use Rattle.choice.specs.Choice.{ChoicePromise, PartPromise, SamePart}
-use Rattle.ledger.specs.Promise.{LedgerPromise, SlotPromise}
+use Rattle.claim.specs.Rows.{NextJob, FoundJob, Judged, claimed}
+use Rattle.choice.specs.Choice.{plan_number, ChoicePromise, PartPromise, SamePart}
+use Rattle.ledger.specs.Promise.{ledger_answer, slot_answer, LedgerPromise, SlotPromise}
 use Rattle.cutlist.specs.CutRows.{HoldsCut}
-use Rattle.crowd.specs.Promise.{CrowdPromise}
+use Rattle.crowd.specs.Promise.{answered_span, CrowdPromise}
 use Rattle.fieldday.specs.declared.FieldDay.{FieldDay}
 use Rattle.fieldday.specs.declared.FieldAnswer.{FieldAnswer}
 use Rattle.fieldday.specs.Promise.{OpenPromise, AdvancePromise, AddPromise, OfferPromise}
 use Rattle.moving.specs.Moving.{MovePromise}
 use Rattle.dayfile.specs.declared.reader.Reading.{Reading}
-use Rattle.dayfile.specs.Reader.{ReadPromise}
+use Rattle.dayfile.specs.Reader.{as_reading, ReadPromise}
 use Rattle.filewriter.specs.Writer.{WritePromise}
 use Rattle.rows.specs.Columns.{releases, deadlines}
 use Rattle.chaskuri.specs.Slot.{SlotNumbered}
-use Rattle.report.specs.declared.Outcome.{Outcome}
+use Rattle.report.specs.Outcome.{Outcome}
+use Rattle.report.specs.File.{outcome}
 use Rattle.text.specs.declared.Text.{Text}
 use Rattle.text.specs.Lines.{Prints}
 use Rattle.report.specs.File.{FilePromise, ReportPromise}
@@ -88,3 +92,19 @@ pub record OneOutcome : Type 0 where
   pub report : (file table : List ℕ) → AtMostOne {A = Text × List ℕ} (λ o. ReportPromise file table o.0 o.1)
   -- text
   pub render : (bytes : List ℕ) → AtMostOne (Prints bytes)
+
+-- what is said of an outcome is said of no other
+abbrev pub SaysOne : {A B : Type 0} → (Result A Refusal → B) → Type 0
+SaysOne {A} says = (x y : Result A Refusal) → says x ≡ says y → x ≡ y
+
+pub record OneResult : Type 0 where
+  pub check : SaysOne checked
+  pub cost : SaysOne answered
+  pub which : SaysOne (answered_by plan_number)
+  pub judge : SaysOne claimed
+  pub next_job : (rows : List ℕ) (from : ℕ) → AtMostOne (FoundJob rows from)
+  pub crowded_span : SaysOne answered_span
+  pub ledger : SaysOne ledger_answer
+  pub slot : SaysOne slot_answer
+  pub read : SaysOne as_reading
+  pub plan_file : SaysOne outcome
