@@ -25,8 +25,8 @@
  *   only reads may overlap. What a call fills (starts, table, the room for read jobs, the file) needs no value before. Nothing else is
  *   asked: what a call cannot take it refuses by a code.
  *   No call allocates, keeps a pointer or any state, or touches memory that it was not lent: calls may run side by side in threads, as long as
- *   none writes a buffer that another was lent. Of stack chaskuri_add takes at most 9,808 bytes, chaskuri_plan 8,192, every other call less
- *   than 2,400: that is measured, by bench/stack.c with the kit rattle-kit-13f. What is said of each call below is proved, in crates/chaskuri_c. */
+ *   none writes a buffer that another was lent. Of stack chaskuri_add takes at most 7,508 bytes, chaskuri_plan 6,276, every other call less
+ *   than 2,100: that is measured, by bench/stack.c with the kit rattle-kit-13f. What is said of each call below is proved, in crates/chaskuri_c. */
 #ifndef CHASKURI_H
 #define CHASKURI_H
 
