@@ -16,7 +16,7 @@ ghost use Rattle.checks.specs.steps.FirstIn.{FirstIn};
 use crate::outcome::Refusal;
 use day::{Day, Power, at_or_zero};
 
-// A code and two numbers; a number that the code doesn't name is 0.
+// A code and two numbers, as C's record has them; a number that the code doesn't name is 0.
 #[repr(C)]
 #[derive(Clone, Copy, PartialEq, Eq)]
 pub struct Answer {

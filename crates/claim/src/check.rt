@@ -1,4 +1,4 @@
-// Judging the starts of a claimed plan, for a list that has passed codes 1 to 4.
+// Judging the starts of a claimed plan, for a list that has passed codes 1 to 4; releases and deadlines are two lists, as in lib.rt.
 ghost use Rattle.std.specs.Prelude.{◌≤◌, length};
 ghost use Rattle.day.specs.Windows.{windows};
 ghost use Rattle.checks.specs.Answer.{checked};

@@ -22,7 +22,7 @@ pub struct CrowdedSpan {
     pub jobs: u16,
 }
 
-// The answer to the question why there is no plan; the span is all zeros where there is one, and under any other refusal.
+// The answer to the question why there is no plan, as C's record has it; the span is all zeros where there is one, and under any other refusal.
 #[repr(C)]
 #[derive(Clone, Copy, PartialEq, Eq)]
 pub struct CrowdAnswer {

@@ -13,7 +13,7 @@ use checks::outcome::Refusal;
 use checks::{Answer, MOST_JOBS};
 use day::{Day, Power};
 
-// What the reader gives beside the rows that it fills.
+// What the reader gives beside the rows that it fills: how many, since it fills the first places of lists that may be longer, and the day.
 #[derive(Clone, Copy)]
 pub struct Header {
     pub count: u16,

@@ -26,7 +26,7 @@ pub struct FieldDay {
     pub starts: [u16; 40],
 }
 
-// The answer of a call, and the day held after it.
+// The answer of a call, and the day held after it, as C's record has them: a refused call gives back the day, so it is no Result.
 #[repr(C)]
 #[derive(Clone, Copy, PartialEq, Eq)]
 pub struct FieldAnswer {

@@ -29,7 +29,7 @@ pub struct SlotFill {
     pub fill: Fill,
 }
 
-// The answer to the question what fills a slot.
+// The answer to the question what fills a slot: SlotPromise speaks of the record that is shown under a refusal too.
 #[derive(Clone, Copy, PartialEq, Eq)]
 pub struct SlotAnswer {
     pub answer: Answer,
@@ -47,7 +47,7 @@ pub struct Counts {
     pub after: u16,
 }
 
-// The answer of the ledger.
+// The answer of the ledger, as C's record has it.
 #[repr(C)]
 #[derive(Clone, Copy, PartialEq, Eq)]
 pub struct LedgerAnswer {

@@ -14,7 +14,7 @@ use text::Text;
 // The program's input has at most this many bytes.
 const MOST_BYTES: usize = 4096;
 
-// What planning a file gives beside the starts: the plan's cost, the number of jobs and the ledger.
+// What planning a file gives beside the starts: the plan's cost, the number of jobs, since the lent list of starts may be longer, and the ledger.
 #[derive(Clone, Copy)]
 pub struct FilePlan {
     pub cost: u16,

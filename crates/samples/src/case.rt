@@ -1,7 +1,7 @@
 // A case: a day, and a list for it.
 use day::Day;
 
-// A list of `count` rows; a line of numbers may leave releases or deadlines out.
+// A list of `count` rows, which no list's length says, since a line of numbers may leave releases or deadlines out.
 #[derive(Clone, Copy)]
 pub struct Case<'a> {
     pub day: Day,

@@ -113,7 +113,8 @@ fn run_lines(text: &[u8], table: &mut [u16]) -> Tally {
     tally
 }
 
-// Whether the library does what a line says: numbers as far as a colon, and words from the second byte after it.
+// Whether the library does what a line says: numbers as far as a colon, and words from the second byte after it. Its first byte is its kind, and
+// stays a byte, since any that is no other kind's is a claim's.
 fn is_right(kind: u8, line: &[u8], table: &mut [u16]) -> bool {
     let colon = line.iter().position(|byte| *byte == b':');
     let colon = colon.unwrap_or(line.len()).min(line.len());

@@ -14,6 +14,7 @@ pub fn read_whole<R: Read>(source: &mut R, file: &mut [u8]) -> io::Result<usize>
     ensures bytes { ReadsWhole (R.remaining source.old) (R.remaining source.new) file.new result }
 {
     let mut at = 0;
+    // a step is as long as what came, so no range says it
     while at < file.len() {
         match advance(at, read_some(source, &mut file[at..]))? {
             Some(next) => at = next,

@@ -14,6 +14,7 @@ pub fn write_whole<W: Write>(target: &mut W, text: &[u8]) -> io::Result<()>
     ensures { WritesWhole (W.contents target.old) (W.contents target.new) text.now result }
 {
     let mut at = 0;
+    // a step is as long as what came, so no range says it
     while at < text.len() {
         at = advance(at, write_some(target, &text[at..]))?;
     }

@@ -19,7 +19,7 @@ pub struct Text {
     pub len: usize,
 }
 
-// The text for an answer; rows, the first 40 where there are more, and ledger appear only where the answer is done.
+// The text for any answer, also one that no call gives, since the clause speaks of all; rows, the first 40 where there are more, and ledger appear only where the answer is done.
 // The count stands beside the starts, since a row past their end has a line too, with a start of 0.
 pub fn render(answer: Answer, count: u16, starts: &[u16], counts: Counts) -> Text
     ensures { Prints (lines answer (min count most_jobs) (at starts.now) counts) result }

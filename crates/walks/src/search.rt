@@ -1,7 +1,7 @@
 // The search over all starts for what is left of a day.
 use crate::state::State;
 
-// A vector of starts, and what it costs.
+// A vector of starts, and what it costs; its places are fixed, as the columns' are, and what has more digits is none.
 #[derive(Clone, Copy)]
 pub struct Plan {
     pub cost: u16,

@@ -22,7 +22,7 @@ pub struct State {
 }
 
 impl State {
-    // A day that opens with these rows and starts; beyond the rows stands what a wake costs.
+    // A day that opens with these rows and starts, in lists as the library takes them; beyond the rows stands what a wake costs.
     pub(crate) fn listed(day: Day, releases: &[u16], deadlines: &[u16], starts: &[u16]) -> State {
         let wake = day.power.wake;
         State {
