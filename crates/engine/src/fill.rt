@@ -29,7 +29,7 @@ fn lower(sums: &mut [u16], table: &[u16], band: usize, lo: usize, hi: usize, bas
     }
 }
 
-impl NextJob<'_> {
+impl NextJob<'_, '_> {
     // Lowers the sums after `split` to those of the two sides of a split there, where these are less.
     fn add_split(self, from: usize, split: usize, table: &[u16], sums: &mut [u16])
         requires from_le_split { (from ≤ split) × (split + 1 < self.frame.shape.points) × (self.frame.shape.points ≤ length self.frame.begins.now) × (self.frame.shape.points ≤ length sums.old) }
@@ -93,7 +93,7 @@ impl NextJob<'_> {
     }
 }
 
-impl Loan<'_> {
+impl Loan<'_, '_, '_, '_> {
     // Fills the levels of one job up to `count` jobs over the level of no jobs. `sums` is a band that says "none", before and after.
     pub fn fill(self, count: usize, table: &mut [u16], sums: &mut [u16])
         requires prepared { Prepared (lent_in self) count }

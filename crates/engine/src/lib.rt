@@ -26,28 +26,28 @@ pub struct Frame<'a> {
 }
 
 // What is lent beside the table: its frame, and the jobs by number: releases, deadlines, and for each point how many of the lowest jobs
-// may split there.
+// may split there. Each has a lifetime of its own, so that a caller may lend them from different places.
 #[derive(Clone, Copy)]
-pub struct Loan<'a> {
-    pub frame: Frame<'a>,
-    pub rel: &'a [u16],
-    pub dead: &'a [u16],
-    pub marks: &'a [u16],
+pub struct Loan<'f, 'r, 'd, 'm> {
+    pub frame: Frame<'f>,
+    pub rel: &'r [u16],
+    pub dead: &'d [u16],
+    pub marks: &'m [u16],
 }
 
 // What one job more takes beside the table: its frame, the marks, and the job's number and window.
 #[derive(Clone, Copy)]
-pub struct NextJob<'a> {
-    pub frame: Frame<'a>,
-    pub marks: &'a [u16],
+pub struct NextJob<'f, 'm> {
+    pub frame: Frame<'f>,
+    pub marks: &'m [u16],
     pub job: usize,
     pub release: usize,
     pub deadline: usize,
 }
 
-impl<'a> Loan<'a> {
+impl<'f, 'm> Loan<'f, '_, '_, 'm> {
     // The job of this number, with its window.
-    pub fn next_job(self, job: usize) -> NextJob<'a>
+    pub fn next_job(self, job: usize) -> NextJob<'f, 'm>
         requires { (job < length self.rel.now) × (job < length self.dead.now) }
         ensures { more_in result ≡ more_of (lent_in self.entry) job }
     {

@@ -96,20 +96,19 @@ fn finish(day: Day, loan: Loan, count: usize, table: &mut [u16]) -> Option<Found
 }
 
 // Finds the plan of jobs that are in number order: lays the table out as a square of the day's points, in which a job may start at every slot.
-// The arrays have room for the most jobs and points, since the memory is fixed; two come by value, so that all that is lent has one lifetime.
 fn plan_numbered(
     day: Day,
-    rel: [u16; 40],
-    dead: [u16; 40],
+    rel: &[u16],
+    dead: &[u16],
     count: usize,
     table: &mut [u16],
 ) -> Option<Found>
-    requires within_limits { WithinLimits day rel dead count }
+    requires within_limits { WithinLimits day rel.now dead.now count }
     requires count_in_bounds { need day.slots count ≤ length table.old }
-    ensures { ((P : Problem) → ProblemOf day rel dead count P → FindsPlan P count (day.slots + 2) result) × (table.new ≡ zeroed (need day.slots count) table.old) }
+    ensures { ((P : Problem) → ProblemOf day rel.now dead.now count P → FindsPlan P count (day.slots + 2) result) × (table.new ≡ zeroed (need day.slots count) table.old) }
 {
     let mut marks = [checks::MOST_JOBS; 99];
-    engine::mark::mark_releases(&rel, count, &mut marks);
+    engine::mark::mark_releases(rel, count, &mut marks);
     let points = usize::from(day.slots) + 3;
     let mut begins = [0; 99];
     engine::square::begin_bands(points, &mut begins);
@@ -119,8 +118,8 @@ fn plan_numbered(
     };
     let loan = Loan {
         frame,
-        rel: &rel,
-        dead: &dead,
+        rel,
+        dead,
         marks: &marks,
     };
     finish(day, loan, count, table)
@@ -153,7 +152,7 @@ fn solve(
 {
     let rel = numbered::by_number(releases, order);
     let dead = numbered::by_number(deadlines, order);
-    let found = plan_numbered(day, rel, dead, order.len(), table);
+    let found = plan_numbered(day, &rel, &dead, order.len(), table);
     tell(day, order, found, starts)
 }
 

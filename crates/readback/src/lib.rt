@@ -30,9 +30,9 @@ pub struct Split {
 
 // A filled table, and what was lent beside it.
 #[derive(Clone, Copy)]
-pub struct Reader<'a> {
-    pub loan: Loan<'a>,
-    pub table: &'a [u16],
+pub struct Reader<'f, 'r, 'd, 'm, 't> {
+    pub loan: Loan<'f, 'r, 'd, 'm>,
+    pub table: &'t [u16],
 }
 
 impl Span {
@@ -89,7 +89,7 @@ fn latest_best(next: NextJob, table: &[u16], span: Span, value: u16) -> Split
     split_at(next.frame, table, next.job, span, next.release)
 }
 
-impl Reader<'_> {
+impl Reader<'_, '_, '_, '_, '_> {
     // Where `job`, which is released in the span, splits it, the span's value being known.
     fn split_of(&self, job: usize, span: Span, value: u16) -> Split
         requires read_back_asks { ReadBackAsks (lent_in self.now.loan) self.now.table.now (job + 1) }

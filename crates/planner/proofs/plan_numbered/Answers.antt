@@ -17,7 +17,7 @@ mark_releases-requires-clause-by_index_2 c = λ t h u.
 -- once the table is laid out
 module _ (c : After-shape_of) where
   abbrev lists : Lent
-  lists = lent c.shape_of.result c.begin_bands.new.begins c.args.rel c.args.dead c.mark_releases.new.marks
+  lists = lent c.shape_of.result c.begin_bands.new.begins c.args.rel.now c.args.dead.now c.mark_releases.new.marks
 
   size : (c.shape_of.result.points ≡ c.args.day.slots + 3)
       × (c.shape_of.result.level ≡ (c.args.day.slots + 3) * (c.args.day.slots + 3))
@@ -29,7 +29,7 @@ module _ (c : After-shape_of) where
       given_of c.requires.within_limits _ _ _ _ _ size (rw c.from-points.ensures at c.begin_bands.ensures) c.mark_releases.ensures
       (omega (arith, c.requires.within_limits.slots)) (omega (arith, c.requires.within_limits.slots))
 
-  asks : (P : Problem) → ProblemOf c.args.day c.args.rel c.args.dead c.args.count P → PosedAtPrices c.args.day lists c.args.count P
+  asks : (P : Problem) → ProblemOf c.args.day c.args.rel.now c.args.dead.now c.args.count P → PosedAtPrices c.args.day lists c.args.count P
   asks =
       asks_of c.requires.within_limits _ _ _ _ _ size (rw c.from-points.ensures at c.begin_bands.ensures) c.mark_releases.ensures
       (omega (arith, c.requires.within_limits.slots)) (omega (arith, c.requires.within_limits.slots))
