@@ -74,9 +74,10 @@ fn since(starts: &[u16], slot: u16) -> Option<u16> {
     Some(before.saturating_add(1))
 }
 
-// The earliest job after a slot.
+// The earliest job after a slot. A start of 65,535, which only a plan with more starts than jobs can have, is none.
 fn next(starts: &[u16], slot: u16) -> Option<u16> {
-    starts.iter().copied().filter(|start| *start > slot).min()
+    let later = starts.iter().copied().filter(|start| *start > slot);
+    later.min().filter(|start| *start < u16::MAX)
 }
 
 // What fills a slot of a proper plan. A gap of exactly L slots is awake.
