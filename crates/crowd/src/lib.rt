@@ -11,7 +11,6 @@ ghost use Rattle.crowd.specs.steps.Search.{CrowdedFrom, ShortestIn};
 
 use checks::outcome::Refusal;
 use checks::{Answer, check_times};
-use day::at_or_zero;
 
 // The slots `begin` to `end` - 1, and how many jobs have their whole window there.
 #[repr(C)]
@@ -120,7 +119,7 @@ impl Rows<'_> {
     {
         let mut ends = [0; 97];
         for (row, release) in self.releases.iter().enumerate() {
-            let end = usize::from(at_or_zero(self.deadlines, row));
+            let end = usize::from(self.deadlines[row]);
             if usize::from(*release) >= begin {
                 ends[end] += 1;
             }

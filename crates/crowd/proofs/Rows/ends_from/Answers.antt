@@ -1,6 +1,6 @@
 -- `crowd::Rows::ends_from` meets its contract. Assumes nothing.
 use Prim.Native.Nat.{◌≤◌}
-use mathlib.Core.Path.{◌≡◌, ◌∙◌}
+use mathlib.Core.Path.{◌≡◌}
 use native.Mathlib.Omega.{arith}
 use Rattle.day.specs.Windows.{at}
 use Rattle.day.proofs.Count.{count_at_most_all}
@@ -14,7 +14,7 @@ loop-row-init c = ends_none
 
 -- the row has its deadline
 its_deadline : (c : After-from-end) → c.from-end.result ≡ at c.args.self.now.deadlines.now c.loop-row.row
-its_deadline c = c.from-end.ensures ∙ c.at_or_zero.ensures
+its_deadline c = c.from-end.ensures
 
 in_day : (c : After-from-end) → c.from-end.result ≤ most_slots
 in_day c = omega (arith, its_deadline c, c.args.self.now.good.in_day _ c.loop-row-test.true)
