@@ -26,6 +26,17 @@ pub struct Answer {
 }
 
 impl Answer {
+    // An answer whose code names no number.
+    pub fn of(code: u16) -> Self
+        ensures { result ≡ says code 0 0 }
+    {
+        Self {
+            code,
+            first: 0,
+            second: 0,
+        }
+    }
+
     // The answer 0 with its first number.
     pub fn done(first: u16) -> Self
         ensures { result ≡ says done first 0 }

@@ -68,11 +68,16 @@ module _ (day : Day) (w : Windows) (own server : List ℕ) where
         says = e;
       })
 
+-- an answer of 0 names the winner
+pub chosen_named : {Check : Answer → Type 0} {day : Day} {w : Windows} {own server : List ℕ} → IsCheck Check → (a : Answer)
+    → Chosen Check day w own server a → a.code ≡ done → NamesWinner day w own server a
+chosen_named {w = w} {own} {server} check a p e = then_done (neither_is_check w own server) a (then_done check a p e) e
+
 -- the plan that an answer of 0 names is fit
 pub chosen_fit : {Check : Answer → Type 0} {day : Day} {w : Windows} {own server : List ℕ} → IsCheck Check → (a : Answer)
     → Chosen Check day w own server a → a.code ≡ done → (a.first ≡ own_plan → Fit w own) × (a.first ≡ server_plan → Fit w server)
 chosen_fit {day = day} {w} {own} {server} check a p e =
-    let named : NamesWinner day w own server a = then_done (neither_is_check w own server) a (then_done check a p e) e in
+    let named : NamesWinner day w own server a = chosen_named check a p e in
     by named.winner named.wins (ap (λ (x : Answer). x.first) named.says)
   where
     by : (k : ℕ) → Wins day w own server k → a.first ≡ k → (a.first ≡ own_plan → Fit w own) × (a.first ≡ server_plan → Fit w server)

@@ -1,5 +1,6 @@
 -- The spans from one begin on, end by end: the first that is crowded is the shortest. Assumes nothing.
 use Prim.Native.Nat.{ℕ, suc, ◌+◌, ◌-◌, ◌≤◌, ◌<◌}
+use mathlib.Core.Path.{refl}
 use mathlib.Core.Logic.{◌⊎◌, inl, inr, ⊎_elim}
 use native.Mathlib.Omega.{arith}
 use Rattle.std.proofs.Common.{Option, Some, None}
@@ -15,6 +16,10 @@ use Rattle.crowd.specs.steps.Ends.{EndsAt}
 use Rattle.crowd.specs.steps.Search.{CrowdedFrom, ShortestIn}
 use Rattle.crowd.proofs.Inside.{inside_count, inside_none}
 use Rattle.crowd.proofs.Ends.{inside_next}
+
+-- on a longer day a crowded span is one too
+pub crowded_longer : {last slots : ℕ} {w : Windows} {span : CrowdedSpan} → last ≤ slots → Crowded last w span → Crowded slots w span
+crowded_longer l c = record { some = c.some; in_day = omega (arith, c.in_day); counted = c.counted; crowded = c.crowded }
 
 module _ (w : Windows) (begin : ℕ) where
   -- the span from `begin` to an end is crowded
@@ -44,7 +49,7 @@ module _ (w : Windows) (begin : ℕ) where
       → Shortest (CrowdedFrom last w begin) (record { begin = begin; end = end; jobs = jobs })
   from_found end jobs last l c before =
       record {
-        among = grind arith;
+        among = (crowded_longer l c, refl);
         no_shorter = λ other o.
             on_le end other.end (λ h. omega (arith, o.1)) (λ h. absurd (before other.end h (crowded_to other o)));
         no_earlier = λ other o same. omega (arith, o.1);

@@ -1,11 +1,11 @@
 -- A list with rows put over its own: the rows up to their count, and beyond it what the list held. Assumes nothing.
 use Prim.Native.Nat.{ℕ, zero, suc, ◌+◌, ◌<◌, ◌≤◌}
-use mathlib.Core.Path.{◌≡◌, sym, ◌∙◌, ap, subst}
+use mathlib.Core.Path.{◌≡◌, refl, sym, ◌∙◌, ap, subst}
 use mathlib.Core.List.{List, map}
 use native.Mathlib.Omega.{arith}
 use native.Mathlib.Numerals.{add-one}
 use lib.Dec.{ltb}
-use lib.ListN.{length, length-map}
+use lib.ListN.{length, length-map, length-set}
 use Rattle.std.proofs.lemmas.List.{map-set}
 use borrow.Author.Tests.{le-ltb, ltb-true, ltb-false}
 use Rattle.day.proofs.Cases.{on}
@@ -26,6 +26,14 @@ put_few places count m e =
     (λ h.
     on (ltb places count) (λ g. omega (arith, rw (h, g) at e, ltb-false 41 count h, ltb-true places count g))
     (λ g. omega (arith, rw (h, g) at e, ltb-false 41 count h)))
+
+-- rows put over a list keep its length, and where there are none they leave it
+pub put_length : (k : ℕ) (jobs : List Job) (rows : Rows) → length (put_first k jobs rows) ≡ length jobs
+put_length zero jobs rows = refl
+put_length (suc k) jobs rows = length-set (put_first k jobs rows) k (job_at rows k) ∙ put_length k jobs rows
+
+pub put_none : (jobs : List Job) (rows : Rows) → rows.count ≡ 0 → put_over jobs rows ≡ jobs
+put_none jobs rows e = ap (λ (c : ℕ). put_first (put_count (length jobs) c) jobs rows) e ∙ rw (le-ltb (length jobs) 0 (omega arith))
 
 -- of either column, the first places are filled by the rows
 module _ (jobs : List Job) (rows : Rows) {Right : ℕ → ℕ → Type 0} (f : Job → ℕ) where
