@@ -26,7 +26,7 @@ pub struct Answer {
 }
 
 impl Answer {
-    // An answer whose code names no number.
+    // An answer whose code names no number. It takes any code, one that no refusal has too.
     pub fn of(code: u16) -> Self
         ensures { result ≡ says code 0 0 }
     {

@@ -96,6 +96,7 @@ fn finish(day: Day, loan: Loan, count: usize, table: &mut [u16]) -> Option<Found
 }
 
 // Finds the plan of jobs that are in number order: lays the table out as a square of the day's points, in which a job may start at every slot.
+// The arrays have room for the most jobs and points, since the memory is fixed.
 fn plan_numbered(
     day: Day,
     rel: &[u16],

@@ -74,7 +74,7 @@ fn since(starts: &[u16], slot: u16) -> Option<u16> {
     Some(before.saturating_add(1))
 }
 
-// The earliest job after a slot. A start of 65,535, which only a plan with more starts than jobs can have, is none.
+// The earliest job after a slot. A line may have more starts than jobs; of those, 65,535 stands for no slot.
 fn next(starts: &[u16], slot: u16) -> Option<u16> {
     let later = starts.iter().copied().filter(|start| *start > slot);
     later.min().filter(|start| *start < u16::MAX)
